@@ -1,15 +1,15 @@
 -- What `first-failing` finds, from how far a loop has come: at place i the entries before it have passed.
 use mathlib.Core.Bool.{Bool, true, false, cond}
-use mathlib.Core.List.{List}
+use mathlib.Core.List.{List, [], _∷_}
 use mathlib.Core.Path.{_≡_, refl, sym, _∙_, ap, subst}
-use Prim.Native.Nat.{ℕ, _+_, _<_, _≤_, _*_, min}
+use Prim.Native.Nat.{ℕ, zero, suc, _+_, _<_, _≤_, _*_, min}
 use native.Mathlib.Omega.{arith}
 use lib.Dec.{eqb, ltb, leb}
 use lib.IntN.{ℤ, natAbs}
 use lib.ListN.{length, getD, drop}
 use Rattle.std.specs.shelf.Lists.{leading}
 use Rattle.std.proofs.shelf.Sums.{leading-drop-yes, leading-drop-no, leading-drop-all, leading-le-length}
-use Rattle.std.proofs.shelf.Tests.{eq-eqb, ne-eqb, lt-ltb, le-leb}
+use Rattle.std.proofs.shelf.Tests.{eq-eqb, ne-eqb, lt-ltb, le-leb, eqb-true}
 use Rattle.std.specs.declared.option.Option.{Option}
 use Rattle.std.specs.declared.option.Option.the-variants.{Some, None}
 use Rattle.guests.specs.Faults.{first-failing, fault-unless, or-else, share-ok, shares-fault, want-ok, wants-fault, amount-ok, owed-fault}
@@ -53,10 +53,31 @@ shares-fault-is ss r some few e =
 pub wants-fault-is : (n : ℕ) (ws : List ℕ) (r : Option Fault) → length ws ≡ n → first-failing want-ok WantAboveOne ws ≡ r → wants-fault n ws ≡ r
 wants-fault-is n ws r long e = or-else-passed (eqb (length ws) n) (WantsLength (min (length ws) n)) _ (eq-eqb (length ws) n long) ∙ e
 
--- limit is the product as the check computes it, and zero its test of the sum
-pub owed-fault-is : (n s limit : ℕ) (os : List ℤ) (zero : Bool) (first : Option Fault) → length os ≡ n → limit ≡ s * n → first-failing (amount-ok limit) OwedOutOfRange os ≡ first → eqb (natAbs (sumℤ-below n (owed-in os))) 0 ≡ zero → owed-fault n s os ≡ or-else first (fault-unless zero OwedSumNotZero)
-owed-fault-is n s limit os zero first long product range sum =
+-- limit is the product as the check computes it, and balanced its test of the sum
+pub owed-fault-is : (n s limit : ℕ) (os : List ℤ) (balanced : Bool) (first : Option Fault) → length os ≡ n → limit ≡ s * n → first-failing (amount-ok limit) OwedOutOfRange os ≡ first → eqb (natAbs (sumℤ-below n (owed-in os))) 0 ≡ balanced → owed-fault n s os ≡ or-else first (fault-unless balanced OwedSumNotZero)
+owed-fault-is n s limit os balanced first long product range sum =
     or-else-passed (eqb (length os) n) (OwedLength (min (length os) n)) _ (eq-eqb (length os) n long)
     ∙ ap (λ m. or-else (first-failing (amount-ok m) OwedOutOfRange os) (fault-unless (eqb (natAbs (sumℤ-below n (owed-in os))) 0) OwedSumNotZero)) (sym product)
     ∙ ap (λ f. or-else f (fault-unless (eqb (natAbs (sumℤ-below n (owed-in os))) 0) OwedSumNotZero)) range
     ∙ ap (λ b. or-else first (fault-unless b OwedSumNotZero)) sum
+
+-- what a check that finds no fault has shown
+pub or-else-none : (a b : Option Fault) → or-else a b ≡ None → (a ≡ None) × (b ≡ None)
+or-else-none None b e = (refl, e)
+or-else-none (Some f) b e = absurd (let z : _≡_ {A = ℕ} 0 1 = cc in omega arith)
+
+pub fault-unless-none : (b : Bool) (f : Fault) → fault-unless b f ≡ None → b ≡ true
+fault-unless-none true f e = refl
+fault-unless-none false f e = absurd (let z : _≡_ {A = ℕ} 0 1 = cc in omega arith)
+
+leading-cons : (b : Bool) (m n : ℕ) → cond b (1 + m) 0 ≡ suc n → (b ≡ true) × (m ≡ n)
+leading-cons true m n e = (refl, omega arith)
+leading-cons false m n e = absurd (omega arith)
+
+leading-each : {X : Type 0} (ok : X → Bool) (xs : List X) (d : X) → leading ok xs ≡ length xs → (i : ℕ) → i < length xs → ok (getD xs i d) ≡ true
+leading-each ok [] d e i h = absurd (omega arith)
+leading-each ok (x ∷ xs) d e zero h = leading-cons (ok x) _ _ e .0
+leading-each ok (x ∷ xs) d e (suc i) h = leading-each ok xs d (leading-cons (ok x) _ _ e .1) i (omega arith)
+
+pub each-from-first-failing : {X : Type 0} (ok : X → Bool) (at : ℕ → Fault) (xs : List X) (d : X) → first-failing ok at xs ≡ None → (i : ℕ) → i < length xs → ok (getD xs i d) ≡ true
+each-from-first-failing ok at xs d e = leading-each ok xs d (eqb-true _ _ (fault-unless-none _ _ e))

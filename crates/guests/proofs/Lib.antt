@@ -1,3 +1,5 @@
+pub mod Amounts
 pub mod Failing
 pub mod Masks
 pub mod Sums
+pub mod Taken

@@ -1,8 +1,14 @@
--- Sums over guests below n: one more guest.
-use mathlib.Core.Path.{_≡_, ap}
-use Prim.Native.Nat.{ℕ, _+_}
+-- Sums over the guests below n: one guest more, bounds, and sums of sums.
+use mathlib.Core.Bool.{Bool, true, false, cond}
+use mathlib.Core.Path.{_≡_, ap, sym, _∙_}
+use Prim.Native.Nat.{ℕ, zero, suc, _+_, _*_, _<_, _≤_}
 use native.Mathlib.Numerals.{add-one}
-use lib.IntN.{ℤ, _+ℤ_}
+use native.Mathlib.Omega.{arith}
+use lib.Dec.{eqb}
+use lib.IntN.{ℤ, pos, _+ℤ_, _-ℤ_}
+use mathlib.Core.Logic.{inl, inr}
+use Rattle.std.proofs.shelf.Signed.{ints}
+use Rattle.std.proofs.shelf.Tests.{cases-eq, eq-eqb, ne-eqb, cond-true, cond-false}
 use Rattle.guests.specs.Guests.{sum-below, sumℤ-below}
 
 pub sum-below-more : (n : ℕ) (f : ℕ → ℕ) → sum-below (n + 1) f ≡ sum-below n f + f n
@@ -10,3 +16,36 @@ sum-below-more n f = ap (λ k. sum-below k f) (add-one n)
 
 pub sumℤ-below-more : (n : ℕ) (f : ℕ → ℤ) → sumℤ-below (n + 1) f ≡ sumℤ-below n f +ℤ f n
 sumℤ-below-more n f = ap (λ k. sumℤ-below k f) (add-one n)
+
+pub sum-below-same : (n : ℕ) (f g : ℕ → ℕ) → ((k : ℕ) → k < n → f k ≡ g k) → sum-below n f ≡ sum-below n g
+sum-below-same zero f g same = omega arith
+sum-below-same (suc n) f g same = omega (arith, sum-below-same n f g (λ k h. same k (omega arith)), same n (omega arith))
+
+pub sumℤ-below-same : (n : ℕ) (f g : ℕ → ℤ) → ((k : ℕ) → k < n → f k ≡ g k) → sumℤ-below n f ≡ sumℤ-below n g
+sumℤ-below-same zero f g same = omega (arith, ints)
+sumℤ-below-same (suc n) f g same =
+    let here = same n (omega arith) in
+    let below = sumℤ-below-same n f g (λ k h. same k (omega arith)) in
+    cc
+
+pub sum-below-le : (n m : ℕ) (f : ℕ → ℕ) → ((k : ℕ) → k < n → f k ≤ m) → sum-below n f ≤ m * n
+sum-below-le zero m f small = omega arith
+sum-below-le (suc n) m f small = omega (arith, sum-below-le n m f (λ k h. small k (omega arith)), small n (omega arith))
+
+-- what one guest pays
+pub sum-below-none : (n r c : ℕ) → n ≤ r → sum-below n (λ g. cond (eqb g r) c 0) ≡ 0
+sum-below-none zero r c h = omega arith
+sum-below-none (suc n) r c h =
+    omega (arith, sum-below-none n r c (omega arith), cond-false (eqb n r) c 0 (ne-eqb n r (λ e. omega arith)))
+
+pub sum-below-one : (n r c : ℕ) → r < n → sum-below n (λ g. cond (eqb g r) c 0) ≡ c
+sum-below-one zero r c h = absurd (omega arith)
+sum-below-one (suc n) r c h =
+    elim (cases-eq n r) [
+      inl e ↦ omega (arith, sum-below-none n r c (omega arith), cond-true (eqb n r) c 0 (eq-eqb n r e))
+    | inr e ↦ omega (arith, sum-below-one n r c (omega arith), cond-false (eqb n r) c 0 (ne-eqb n r e)) ]
+
+-- what all are owed moves by what all earn less what all pay
+pub sumℤ-below-moved : (n : ℕ) (o : ℕ → ℤ) (e p : ℕ → ℕ) → sumℤ-below n (λ g. o g +ℤ pos (e g) -ℤ pos (p g)) ≡ sumℤ-below n o +ℤ pos (sum-below n e) -ℤ pos (sum-below n p)
+sumℤ-below-moved zero o e p = omega (arith, ints)
+sumℤ-below-moved (suc n) o e p = omega (arith, ints, sumℤ-below-moved n o e p)

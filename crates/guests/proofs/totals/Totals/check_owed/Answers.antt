@@ -4,7 +4,7 @@ use borrow.Author.Differences.{abs-is}
 use borrow.Author.Needs.{needs}
 use lib.IntN.{ℤ, pos, negsuc, natAbs, _+ℤ_}
 use lib.ListN.{getD}
-use lib.Signed.{mag, _≤ℤ_}
+use lib.Signed.{_≤ℤ_}
 use mir.Syntax.{w64}
 use mir.Val.{SFits, toZ, ofZ}
 use native.Mathlib.Omega.{arith}
@@ -13,6 +13,7 @@ use Rattle.std.proofs.shelf.Signed.{ints, toZ-ofZ, ofZ-toZ}
 use Rattle.std.proofs.shelf.Tests.{le-ltb, lt-ltb, eq-eqb, ne-eqb}
 use Rattle.guests.specs.Faults.{amount-ok}
 use Rattle.guests.specs.Guests.{owed-in, sumℤ-below}
+use Rattle.guests.proofs.Amounts.{abs-add, sum-fits, sum-is}
 use Rattle.guests.proofs.Failing.{first-failing-here, first-failing-none, passed-more, owed-fault-is}
 use Rattle.guests.proofs.Sums.{sumℤ-below-more}
 use Rattle.guests.specs.declared.faults.Fault.the-variants.{OwedOutOfRange}
@@ -33,21 +34,6 @@ abs-from-bits n z e zero = sym (ap natAbs e) ∙ ap (λ m. natAbs (toZ w64 m)) z
 bits-from-abs : (n : ℕ) (z : ℤ) → n < 2 ^ 64 → toZ w64 n ≡ z → natAbs z ≡ 0 → n ≡ 0
 bits-from-abs n z h e zero = sym (ofZ-toZ w64 n h) ∙ ap (ofZ w64) (e ∙ abs-zero z zero)
 
-mag-le-abs : (z : ℤ) → mag z ≤ natAbs z
-mag-le-abs (pos n) = omega arith
-mag-le-abs (negsuc n) = omega arith
-
--- one more amount x, below the largest limit there is, on the sum s of k before
-module _ (s x : ℤ) (k : ℕ) (so-far : natAbs s ≤ 4096000 * k) (few : k ≤ 64) (small : natAbs x ≤ 4096000) where
-  abs-more : natAbs (s +ℤ x) ≤ 4096000 * (k + 1)
-  abs-more = omega (arith, ints, abs-is s, abs-is x, abs-is (s +ℤ x))
-
-  sum-fits : (a b : ℤ) → a ≡ s → b ≡ x → SFits w64 (a +ℤ b)
-  sum-fits a b e f = record { sfits = rw (e, f) (omega (arith, mag-le-abs (s +ℤ x), abs-more)) }
-
-  sum-is : (a b : ℤ) → a ≡ s → b ≡ x → toZ w64 (ofZ w64 (a +ℤ b)) ≡ s +ℤ x
-  sum-is a b e f = toZ-ofZ w64 (a +ℤ b) (sum-fits a b e f) ∙ cc
-
 pub returns-then-unsigned-abs-limit : need.returns-then-unsigned-abs-limit
 returns-then-unsigned-abs-limit c =
     let limit = c .unsigned-abs .result * c .args .self .guests in
@@ -67,7 +53,7 @@ add-sum c =
     let amount = abs-of x _ fits (c .unsigned-abs-in-loop-guest .ensures .value) in
     let few = c .args .self .few in
     let limit = limit-small (c .args .self .share) _ _ (abs-of (c .args .self .share) _ (search needs) (c .unsigned-abs .ensures .value)) (few .1) (few .2) (few .0) in
-    sum-fits _ x (c .loop-guest .guest) (c .loop-guest .inv .2) (omega arith) (omega (arith, amount, limit)) _ _ (c .loop-guest .inv .1) (toZ-ofZ w64 x fits)
+    sum-fits (sumℤ-below (c .loop-guest .guest) (owed-in (c .args .owed .now))) x (omega (arith, c .loop-guest .inv .2, amount, limit)) _ _ (c .loop-guest .inv .1) (toZ-ofZ w64 x fits)
 
 pub loop-guest-again : need.loop-guest-again
 loop-guest-again c =
@@ -78,11 +64,10 @@ loop-guest-again c =
     let amount = abs-of x _ fits (c .unsigned-abs-in-loop-guest .ensures .value) in
     let few = c .args .self .few in
     let limit = limit-small (c .args .self .share) _ _ (abs-of (c .args .self .share) _ (search needs) (c .unsigned-abs .ensures .value)) (few .1) (few .2) (few .0) in
-    let small : natAbs x ≤ 4096000 = omega (arith, amount, limit) in
     let more = sumℤ-below-more i (owed-in (c .args .owed .now)) in
     (passed-more (amount-ok (c .unsigned-abs .result * c .args .self .guests)) (c .args .owed .now) (pos 0) i (c .loop-guest-test .taken) (lt-ltb _ _ (omega (arith, amount))) (c .loop-guest .inv .0),
-     sum-is s x i (c .loop-guest .inv .2) (omega arith) small _ _ (c .loop-guest .inv .1) (toZ-ofZ w64 x fits) ∙ sym more,
-     rw more (abs-more s x i (c .loop-guest .inv .2) (omega arith) small))
+     sum-is s x (omega (arith, c .loop-guest .inv .2, amount, limit)) _ _ (c .loop-guest .inv .1) (toZ-ofZ w64 x fits) ∙ sym more,
+     rw more (omega (arith, abs-add s x, c .loop-guest .inv .2, amount, limit)))
 
 pub returns-then-sum-ne0 : need.returns-then-sum-ne0
 returns-then-sum-ne0 c =

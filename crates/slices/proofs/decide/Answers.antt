@@ -1,0 +1,81 @@
+use mathlib.Core.Bool.{true}
+use mathlib.Core.Path.{_≡_, sym, _∙_, ap}
+use Prim.Native.Nat.{ℕ}
+use borrow.Author.Needs.{needs}
+use lib.IntN.{pos}
+use Rattle.std.proofs.shelf.Tests.{eq-eqb, ne-eqb}
+use Rattle.std.specs.Options.{isSome}
+use Rattle.std.specs.Parts.{enumerate-count}
+use Rattle.std.specs.declared.option.Option.the-variants.{Some}
+use Rattle.guests.specs.Guests.{host-in, wants-in, owed-in, sum-below}
+use Rattle.guests.proofs.Taken.{taken}
+use Rattle.slices.specs.Answers.{takes-turn}
+use Rattle.slices.specs.Rule.{claim, earned, runner-below}
+use Rattle.slices.proofs.Beside.{beside-turn, beside-end}
+use Rattle.slices.proofs.Deciding.{so-far-asleep, so-far-takes, so-far-keeps, so-far-some, so-far-runner, candidate-is}
+use Rattle.slices.proofs.Ranges.{claim-fits, claim-is, cost-fits, cost-is}
+use Rattle.slices.proofs.decide.Needs as need
+use Rattle.slices.proofs.decide.Needs.{then-beats, else-beats}
+
+pub add-candidate : need.add-candidate
+add-candidate c =
+    let at = beside-turn (c .args .shares .now) (c .args .wants .now) (c .args .owed .now) (c .loop-guest .guest-iterator) (c .next .last .self) (c .loop-guest .inv .2) (c .in-Some .ensures tt .steps) in
+    claim-fits (c .args .shares .now) (c .args .wants .now) (c .args .owed .now) (taken _ _ _ (c .pre .taken)) (enumerate-count (c .loop-guest .guest-iterator)) (at .within) _ _ (at .owed) (c .from-share .ensures ∙ ap pos (at .share))
+
+pub add-cost : need.add-cost
+add-cost c =
+    let at = beside-turn (c .args .shares .now) (c .args .wants .now) (c .args .owed .now) (c .loop-guest .guest-iterator) (c .next .last .self) (c .loop-guest .inv .2) (c .in-Some .ensures tt .steps) in
+    cost-fits (c .args .shares .now) (c .args .wants .now) (c .args .owed .now) (taken _ _ _ (c .pre .taken)) (enumerate-count (c .loop-guest .guest-iterator)) (at .within) _ _ (c .loop-guest .inv .3 .cost-is) (c .from-share .ensures ∙ ap pos (at .share))
+
+pub loop-guest-again-then-want-eq1 : need.loop-guest-again-then-want-eq1
+loop-guest-again-then-want-eq1 c =
+    let ss = c .args .shares .now in
+    let ws = c .args .wants .now in
+    let os = c .args .owed .now in
+    let q = claim (host-in ss) (wants-in ws) (owed-in os) in
+    let i = enumerate-count (c .loop-guest .guest-iterator) in
+    let at = beside-turn ss ws os (c .loop-guest .guest-iterator) (c .next .last .self) (c .loop-guest .inv .2) (c .in-Some .ensures tt .steps) in
+    let t = taken ss ws os (c .pre .taken) in
+    let share = c .from-share .ensures ∙ ap pos (at .share) in
+    let awake : wants-in ws i ≡ true = eq-eqb _ 1 (sym (at .want) ∙ c .if-want-eq1 .taken) in
+    let claims = claim-is ss ws os t i (at .within) (c .in-Some .amount .now) (c .from-share .result) (at .owed) share awake in
+    let pays = cost-is ss ws os t i (at .within) _ (c .from-share .result) (c .loop-guest .inv .3 .cost-is) share in
+    (search needs, search needs, at .rest,
+     elim (c .if-beats .came) [
+       then-beats w ↦ so-far-takes (host-in ss) (wants-in ws) q i _ (at .next) _ _ (c .loop-guest .inv .3) _ _ pays awake
+         (w .best-is ∙ ap Some (candidate-is q _ i _ (c .in-Some .ensures tt .steps .1) claims))
+         (sym (ap (λ z. takes-turn z (c .loop-guest .best)) claims) ∙ sym (c .beats .ensures) ∙ w .if-beats .taken)
+     | else-beats w ↦ so-far-keeps (host-in ss) (wants-in ws) q i _ (at .next) _ _ (c .loop-guest .inv .3) _ _ pays awake
+         (w .best-is)
+         (sym (ap (λ z. takes-turn z (c .loop-guest .best)) claims) ∙ sym (c .beats .ensures) ∙ w .if-beats .left) ])
+
+pub loop-guest-again : need.loop-guest-again
+loop-guest-again c =
+    let ss = c .args .shares .now in
+    let ws = c .args .wants .now in
+    let os = c .args .owed .now in
+    let at = beside-turn ss ws os (c .loop-guest .guest-iterator) (c .next .last .self) (c .loop-guest .inv .2) (c .in-Some .ensures tt .steps) in
+    (search needs, search needs, at .rest,
+     so-far-asleep (host-in ss) (wants-in ws) _ (enumerate-count (c .loop-guest .guest-iterator)) _ (at .next) _ _ (c .loop-guest .inv .3)
+     (ne-eqb _ 1 (λ e. c .if-want-eq1 .left (at .want ∙ e))))
+
+pub unwrap-requires : need.unwrap-requires
+unwrap-requires c κs =
+    let ss = c .args .shares .now in
+    let ws = c .args .wants .now in
+    let os = c .args .owed .now in
+    let q = claim (host-in ss) (wants-in ws) (owed-in os) in
+    let t = taken ss ws os (c .pre .taken) in
+    let end = beside-end ss ws os (c .loop-guest .guest-iterator) (c .next .last .self) (t .wants-long) (t .owed-long) (c .loop-guest .inv .2) (c .in-None .ensures tt .steps .0) in
+    so-far-some (host-in ss) (wants-in ws) q (enumerate-count (c .loop-guest .guest-iterator)) _ _ (c .loop-guest .inv .3) (ap (λ (n : ℕ). isSome (runner-below (wants-in ws) q n)) end ∙ c .pre .some)
+
+pub returns : need.returns
+returns c =
+    let ss = c .args .shares .now in
+    let ws = c .args .wants .now in
+    let os = c .args .owed .now in
+    let q = claim (host-in ss) (wants-in ws) (owed-in os) in
+    let t = taken ss ws os (c .pre .taken) in
+    let end = beside-end ss ws os (c .loop-guest .guest-iterator) (c .next .last .self) (t .wants-long) (t .owed-long) (c .loop-guest .inv .2) (c .in-None .ensures tt .steps .0) in
+    (ap (λ (n : ℕ). runner-below (wants-in ws) q n) (sym end) ∙ so-far-runner (host-in ss) (wants-in ws) q (enumerate-count (c .loop-guest .guest-iterator)) (c .unwrap .result) _ _ (c .loop-guest .inv .3) (c .unwrap .ensures),
+     c .loop-guest .inv .3 .cost-is ∙ ap (λ (n : ℕ). pos (sum-below n (earned (host-in ss) (wants-in ws)))) end)
