@@ -1,3 +1,4 @@
+pub mod Agree
 pub mod Beside
 pub mod Counted
 pub mod Deciding
@@ -5,3 +6,4 @@ pub mod Earning
 pub mod Ranges
 pub mod Runner
 pub mod Settling
+pub mod Tables

@@ -1,3 +1,5 @@
 pub mod Answers
+pub mod Examples
 pub mod Laws
 pub mod Rule
+pub mod Runs

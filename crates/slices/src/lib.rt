@@ -2,6 +2,7 @@
 ghost use Rattle.guests.specs.Faults.{fault};
 ghost use Rattle.guests.specs.Guests.{host-in, wants-in, owed-in};
 ghost use Rattle.slices.specs.Answers.{Decides, Settles, Slice-says, Slice-keeps, takes-turn};
+ghost use Rattle.slices.specs.Examples.{Turns-of-three};
 ghost use Rattle.slices.specs.Rule.{runner};
 ghost use Rattle.std.specs.Options.{isSome};
 ghost use Rattle.std.specs.declared.option.Option.the-variants.{None};
@@ -94,4 +95,11 @@ pub fn slice(shares: &[u32], wants: &[u8], owed: &mut [i64]) -> Done
     let turn = decide(shares, wants, owed);
     settle(turn, shares, wants, owed);
     Done::Works(turn.runner as u64)
+}
+
+// Who runs in twelve slices on a host with the shares 1, 2 and 3 where all want all the while: an example to compare with.
+pub fn turns_of_three() -> [u8; 12]
+    ensures { λ r. ⌜ Turns-of-three r ⌝ }
+{
+    [2, 1, 0, 2, 1, 2, 2, 1, 0, 2, 1, 2]
 }
