@@ -1,4 +1,4 @@
--- Sums and differences of amounts that are far from the ends of 64 bits. An amount that code has read comes back as toZ (ofZ x), which `as-read` removes.
+-- Sums of amounts that are far from the ends of 64 bits. An amount that code has read comes back as toZ (ofZ x), which `as-read` removes.
 use mathlib.Core.Path.{_≡_, _∙_, ap, sym}
 use Prim.Native.Nat.{ℕ, _+_, _^_, _<_, _≤_}
 use native.Mathlib.Omega.{arith}
@@ -16,7 +16,7 @@ mag-le-abs (negsuc n) = omega arith
 pub abs-add : (x y : ℤ) → natAbs (x +ℤ y) ≤ natAbs x + natAbs y
 abs-add x y = omega (arith, ints, abs-is x, abs-is y, abs-is (x +ℤ y))
 
-abs-sub : (x y : ℤ) → natAbs (x -ℤ y) ≤ natAbs x + natAbs y
+pub abs-sub : (x y : ℤ) → natAbs (x -ℤ y) ≤ natAbs x + natAbs y
 abs-sub x y = omega (arith, ints, abs-is x, abs-is y, abs-is (x -ℤ y))
 
 fits-from-abs : (z : ℤ) → natAbs z < 2 ^ 63 → SFits w64 z
@@ -32,9 +32,3 @@ module _ (x y : ℤ) (small : natAbs x + natAbs y < 2 ^ 63) where
 
   pub sum-is : (a b : ℤ) → a ≡ x → b ≡ y → toZ w64 (ofZ w64 (a +ℤ b)) ≡ x +ℤ y
   sum-is a b e f = toZ-ofZ w64 (a +ℤ b) (sum-fits a b e f) ∙ cc
-
-  pub difference-fits : (a b : ℤ) → a ≡ x → b ≡ y → SFits w64 (a -ℤ b)
-  difference-fits a b e f = rw (e, f) (fits-from-abs (x -ℤ y) (omega (arith, abs-sub x y)))
-
-  pub difference-is : (a b : ℤ) → a ≡ x → b ≡ y → toZ w64 (ofZ w64 (a -ℤ b)) ≡ x -ℤ y
-  difference-is a b e f = toZ-ofZ w64 (a -ℤ b) (difference-fits a b e f) ∙ cc

@@ -68,8 +68,8 @@ module _ (h : Host) (w : Wants) (q : Owed) (i j : ℕ) (step : j ≡ i + 1) (bes
     pub so-far-keeps : best′ ≡ best → takes-turn (q i) best ≡ false → So-far h w q j best′ cost′
     so-far-keeps b f = record { best-is = b ∙ s .best-is ∙ sym (ap (mapped (candidate q)) (runner-turn false f)); cost-is = cost-next }
 
-pub candidate-is : (q : Owed) (g i : ℕ) (z : ℤ) → g ≡ i → z ≡ q i → _≡_ {A = Candidate} (record { guest = g; claim = z }) (candidate q i)
-candidate-is q g i z e f = ap (λ (n : ℕ). record { guest = n; claim = z }) e ∙ ap (λ (a : ℤ). record { guest = i; claim = a }) f
+pub candidate-is : (q : Owed) (c : Candidate) (i : ℕ) → c .guest ≡ i → c .claim ≡ q i → c ≡ candidate q i
+candidate-is q c i e f = ap (λ (n : ℕ). record { guest = n; claim = c .claim }) e ∙ ap (λ (a : ℤ). record { guest = i; claim = a }) f
 
 -- at the end
 pub so-far-some : (h : Host) (w : Wants) (q : Owed) (n : ℕ) (best : Option Candidate) (cost : ℤ) → So-far h w q n best cost → isSome (runner-below w q n) ≡ true → isSome best ≡ true

@@ -1,73 +1,78 @@
--- The sums of a slice, of lists that are taken, fit 64 bits and are what the rule has. An amount that code has read comes back as toZ (ofZ a).
-use mathlib.Core.Bool.{true}
+-- The numbers of a slice, of lists that are taken, as code reads them: toZ (ofZ a) is a, and each is small.
+use mathlib.Core.Bool.{Bool, true, cond}
 use mathlib.Core.List.{List}
-use mathlib.Core.Path.{_≡_, refl, sym, _∙_, ap}
-use Prim.Native.Nat.{ℕ, _+_, _*_, _^_, _<_, _≤_}
+use mathlib.Core.Path.{_≡_, sym, _∙_, ap}
+use Prim.Native.Nat.{ℕ, _+_, _^_, _<_, _≤_}
 use native.Mathlib.Omega.{arith}
+use lib.Dec.{eqb}
 use lib.IntN.{ℤ, pos, natAbs, _+ℤ_, _-ℤ_}
 use lib.ListN.{length, getD}
 use mir.Syntax.{w64}
-use mir.Val.{SFits, toZ, ofZ}
+use mir.Val.{toZ, ofZ}
 use Rattle.std.proofs.shelf.Tests.{cond-both}
-use Rattle.guests.specs.Guests.{Host, Wants, host-in, wants-in, owed-in, sum-below}
-use Rattle.guests.proofs.Amounts.{abs-add, as-read, sum-fits, sum-is, difference-fits, difference-is}
+use Rattle.guests.specs.Guests.{host-in, wants-in, owed-in, sum-below}
+use Rattle.guests.proofs.Amounts.{abs-add, abs-sub, as-read}
 use Rattle.guests.proofs.Sums.{sum-below-le}
 use Rattle.guests.proofs.Taken.{Taken, owed-small}
 use Rattle.slices.specs.Rule.{claim, earned, wanting}
 use Rattle.slices.proofs.Earning.{earned-awake}
 
+-- an amount a that is x, read
+read : (a x : ℤ) → a ≡ x → natAbs x < 2 ^ 63 → toZ w64 (ofZ w64 a) ≡ x
+read a x e small = ap (λ z. toZ w64 (ofZ w64 z)) e ∙ as-read x small
+
 module _ (ss ws : List ℕ) (os : List ℤ) (t : Taken ss ws os) where
-  read-owed : (g : ℕ) → g < length ss → (a : ℤ) → a ≡ getD os g (pos 0) → toZ w64 (ofZ w64 a) ≡ getD os g (pos 0)
-  read-owed g h a e = ap (λ z. toZ w64 (ofZ w64 z)) e ∙ as-read (getD os g (pos 0)) (omega (arith, owed-small ss ws os t g h))
-
-  pub read-share : (g : ℕ) → g < length ss → (b : ℤ) → b ≡ pos (getD ss g 0) → toZ w64 (ofZ w64 b) ≡ pos (getD ss g 0)
-  read-share g h b e = ap (λ z. toZ w64 (ofZ w64 z)) e ∙ as-read (pos (getD ss g 0)) (omega (arith, t .share-most g h))
-
   earned-most : (g : ℕ) → g < length ss → earned (host-in ss) (wants-in ws) g ≤ 1000
   earned-most g h = cond-both (wants-in ws g) (getD ss g 0) 0 (λ n. n ≤ 1000) (λ _. t .share-most g h) (λ _. omega arith)
 
-  pub earned-sum-most : (i : ℕ) → i ≤ length ss → sum-below i (earned (host-in ss) (wants-in ws)) ≤ 64000
+  earned-sum-most : (i : ℕ) → i ≤ length ss → sum-below i (earned (host-in ss) (wants-in ws)) ≤ 64000
   earned-sum-most i h =
       omega (arith, sum-below-le i 1000 (earned (host-in ss) (wants-in ws)) (λ g b. earned-most g (omega arith)), t .few)
 
-  -- what guest g is owed, a, and its share, b
-  module _ (g : ℕ) (h : g < length ss) (a b : ℤ) (ea : a ≡ getD os g (pos 0)) (eb : b ≡ pos (getD ss g 0)) where
-    small : natAbs (getD os g (pos 0)) + natAbs (pos (getD ss g 0)) < 2 ^ 63
-    small = omega (arith, owed-small ss ws os t g h, t .share-most g h)
+  -- what guest g is owed
+  module _ (g : ℕ) (h : g < length ss) (a : ℤ) (e : a ≡ owed-in os g) where
+    read-owed : toZ w64 (ofZ w64 a) ≡ owed-in os g
+    read-owed = read a (owed-in os g) e (omega (arith, owed-small ss ws os t g h))
 
-    pub claim-fits : SFits w64 (toZ w64 (ofZ w64 a) +ℤ toZ w64 (ofZ w64 b))
-    claim-fits = sum-fits (getD os g (pos 0)) (pos (getD ss g 0)) small _ _ (read-owed g h a ea) (read-share g h b eb)
+    pub owed-most : natAbs (toZ w64 (ofZ w64 a)) ≤ 4096000
+    owed-most = rw read-owed (owed-small ss ws os t g h)
 
-    pub claim-is : wants-in ws g ≡ true → toZ w64 (ofZ w64 (toZ w64 (ofZ w64 a) +ℤ toZ w64 (ofZ w64 b))) ≡ claim (host-in ss) (wants-in ws) (owed-in os) g
-    claim-is e =
-        sum-is (getD os g (pos 0)) (pos (getD ss g 0)) small _ _ (read-owed g h a ea) (read-share g h b eb)
-        ∙ ap (λ n. getD os g (pos 0) +ℤ pos n) (sym (earned-awake (host-in ss) (wants-in ws) g e))
+    pub claim-is : (x : ℕ) → x ≡ getD ss g 0 → wants-in ws g ≡ true → toZ w64 (ofZ w64 a) +ℤ pos x ≡ claim (host-in ss) (wants-in ws) (owed-in os) g
+    claim-is x s awake =
+        ap (λ z. z +ℤ pos x) read-owed
+        ∙ ap (λ n. owed-in os g +ℤ pos n) (s ∙ sym (earned-awake (host-in ss) (wants-in ws) g awake))
 
-  -- the cost so far, a, and one more share, b
-  module _ (i : ℕ) (h : i < length ss) (a b : ℤ) (ea : a ≡ pos (sum-below i (earned (host-in ss) (wants-in ws)))) (eb : b ≡ pos (getD ss i 0)) where
-    cost-small : natAbs a + natAbs (pos (getD ss i 0)) < 2 ^ 63
-    cost-small = omega (arith, ap natAbs ea, earned-sum-most i (omega arith), t .share-most i h)
+  -- what those who want below i earn
+  module _ (i : ℕ) (h : i < length ss) (a : ℤ) (e : a ≡ pos (sum-below i (earned (host-in ss) (wants-in ws)))) where
+    pub cost-most : natAbs a ≤ 64000
+    cost-most = omega (arith, ap natAbs e, earned-sum-most i (omega arith))
 
-    pub cost-fits : SFits w64 (a +ℤ toZ w64 (ofZ w64 b))
-    cost-fits = sum-fits a (pos (getD ss i 0)) cost-small _ _ refl (read-share i h b eb)
+    pub cost-is : (r : ℤ) (x : ℕ) → x ≡ getD ss i 0 → r ≡ a +ℤ pos x → toZ w64 (ofZ w64 r) ≡ a +ℤ pos (getD ss i 0)
+    cost-is r x s is =
+        read r (a +ℤ pos (getD ss i 0)) (is ∙ ap (λ n. a +ℤ pos n) s)
+        (omega (arith, abs-add a (pos (getD ss i 0)), cost-most, t .share-most i h))
 
-    pub cost-is : toZ w64 (ofZ w64 (a +ℤ toZ w64 (ofZ w64 b))) ≡ a +ℤ pos (getD ss i 0)
-    cost-is = sum-is a (pos (getD ss i 0)) cost-small _ _ refl (read-share i h b eb)
+  -- what guest g is owed, a, earns, e, and pays, p, where somebody runs at the cost c
+  module _ (g : ℕ) (h : g < length ss) (runs : Bool) (a e p c : ℤ) (ea : a ≡ owed-in os g) (ee : e ≡ pos (earned (host-in ss) (wants-in ws) g)) (ec : c ≡ pos (wanting (host-in ss) (wants-in ws))) (ep : p ≡ cond runs c (pos 0)) where
+    cost-small : natAbs (cond runs c (pos 0)) ≤ 64000
+    cost-small = cond-both runs c (pos 0) (λ z. natAbs z ≤ 64000) (λ _. omega (arith, ap natAbs ec, earned-sum-most (length ss) (omega arith))) (λ _. omega arith)
 
-  -- the runner's claim, a, and what it pays, b
-  module _ (g : ℕ) (h : g < length ss) (a b : ℤ) (ea : a ≡ claim (host-in ss) (wants-in ws) (owed-in os) g) (eb : b ≡ pos (wanting (host-in ss) (wants-in ws))) where
-    payment-small : natAbs (claim (host-in ss) (wants-in ws) (owed-in os) g) + natAbs (pos (wanting (host-in ss) (wants-in ws))) < 2 ^ 63
-    payment-small =
-        omega (arith, abs-add (owed-in os g) (pos (earned (host-in ss) (wants-in ws) g)), owed-small ss ws os t g h, earned-most g h, earned-sum-most (length ss) (omega arith))
+    read-earned : toZ w64 (ofZ w64 e) ≡ pos (earned (host-in ss) (wants-in ws) g)
+    read-earned = read e _ ee (omega (arith, earned-most g h))
 
-    read-claim : toZ w64 (ofZ w64 a) ≡ claim (host-in ss) (wants-in ws) (owed-in os) g
-    read-claim = ap (λ z. toZ w64 (ofZ w64 z)) ea ∙ as-read _ (omega (arith, payment-small))
+    read-paid : toZ w64 (ofZ w64 p) ≡ cond runs c (pos 0)
+    read-paid = read p _ ep (omega (arith, cost-small))
 
-    read-cost : toZ w64 (ofZ w64 b) ≡ pos (wanting (host-in ss) (wants-in ws))
-    read-cost = ap (λ z. toZ w64 (ofZ w64 z)) eb ∙ as-read _ (omega (arith, payment-small))
+    pub earned-read-most : natAbs (toZ w64 (ofZ w64 e)) ≤ 1000
+    earned-read-most = rw read-earned (earned-most g h)
 
-    pub payment-fits : SFits w64 (toZ w64 (ofZ w64 a) -ℤ toZ w64 (ofZ w64 b))
-    payment-fits = difference-fits _ _ payment-small _ _ read-claim read-cost
+    pub paid-read-most : natAbs (toZ w64 (ofZ w64 p)) ≤ 64000
+    paid-read-most = rw read-paid cost-small
 
-    pub payment-is : toZ w64 (ofZ w64 (toZ w64 (ofZ w64 a) -ℤ toZ w64 (ofZ w64 b))) ≡ claim (host-in ss) (wants-in ws) (owed-in os) g -ℤ pos (wanting (host-in ss) (wants-in ws))
-    payment-is = difference-is _ _ payment-small _ _ read-claim read-cost
+    pub settled-is : (r : ℤ) → r ≡ (toZ w64 (ofZ w64 a) +ℤ toZ w64 (ofZ w64 e)) -ℤ toZ w64 (ofZ w64 p) → toZ w64 (ofZ w64 r) ≡ claim (host-in ss) (wants-in ws) (owed-in os) g -ℤ cond runs c (pos 0)
+    settled-is r is =
+        read r (claim (host-in ss) (wants-in ws) (owed-in os) g -ℤ cond runs c (pos 0))
+        (is ∙ ap (λ z. (z +ℤ toZ w64 (ofZ w64 e)) -ℤ toZ w64 (ofZ w64 p)) (read-owed g h a ea)
+         ∙ ap (λ z. (owed-in os g +ℤ z) -ℤ toZ w64 (ofZ w64 p)) read-earned
+         ∙ ap (λ z. claim (host-in ss) (wants-in ws) (owed-in os) g -ℤ z) read-paid)
+        (omega (arith, abs-sub (claim (host-in ss) (wants-in ws) (owed-in os) g) (cond runs c (pos 0)), abs-add (owed-in os g) (pos (earned (host-in ss) (wants-in ws) g)), owed-small ss ws os t g h, earned-most g h, cost-small))

@@ -1,14 +1,18 @@
 // One slice of a host's time: each who wants earns its share, and who is then owed most runs and pays for all of them.
+ghost use Prim.Native.Nat.{_≤_};
 ghost use Rattle.guests.specs.Faults.{fault};
-ghost use Rattle.guests.specs.Guests.{host-in, wants-in, owed-in};
-ghost use Rattle.slices.specs.Answers.{Decides, Settles, Slice-says, Slice-keeps, takes-turn};
+ghost use Rattle.guests.specs.Guests.{host-in, wants-in, owed-in, wants-bits};
+ghost use Rattle.slices.specs.Answers.{Decides, Settles, Slice-says, Slice-keeps, answer, takes-turn};
 ghost use Rattle.slices.specs.Examples.{Turns-of-three};
 ghost use Rattle.slices.specs.Rule.{runner};
 ghost use Rattle.std.specs.Options.{isSome};
 ghost use Rattle.std.specs.declared.option.Option.the-variants.{None};
-ghost use mathlib.Core.Bool.{true};
+ghost use lib.Dec.{eqb};
+ghost use lib.IntN.{pos, natAbs, _+ℤ_, _-ℤ_};
+ghost use mathlib.Core.Bool.{true, cond};
 ghost use mathlib.Core.Path.{_≡_};
 use guests::check;
+use guests::Runnable;
 
 // What a slice answers.
 #[derive(Clone, Copy, PartialEq, Eq, Debug)]
@@ -36,6 +40,14 @@ struct Turn {
 }
 
 impl Candidate {
+    fn new(guest: usize, share: u32, amount: i64) -> Candidate
+        requires { ⌜ natAbs amount ≤ 4096000 ⌝ ∗ ⌜ share ≤ 1000 ⌝ }
+        ensures guest { λ r. ⌜ r .guest ≡ guest ⌝ }
+        ensures claim { λ r. ⌜ r .claim ≡ amount +ℤ pos share ⌝ }
+    {
+        Candidate { guest, claim: amount + i64::from(share) }
+    }
+
     // Only a greater claim takes the turn, so that of equals the lowest guest keeps it.
     fn beats(self, best: Option<Candidate>) -> bool
         ensures { λ r. ⌜ r ≡ takes-turn (self .claim) best ⌝ }
@@ -47,6 +59,14 @@ impl Candidate {
     }
 }
 
+// What all who want earn, with one more of them.
+fn with_share(cost: i64, share: u32) -> i64
+    requires { ⌜ natAbs cost ≤ 64000 ⌝ ∗ ⌜ share ≤ 1000 ⌝ }
+    ensures { λ r. ⌜ r ≡ cost +ℤ pos share ⌝ }
+{
+    cost + i64::from(share)
+}
+
 fn decide(shares: &[u32], wants: &[u8], owed: &[i64]) -> Turn
     requires taken { ⌜ fault (now shares) (now wants) (now owed) ≡ None ⌝ }
     requires some { ⌜ isSome (runner (host-in (now shares)) (wants-in (now wants)) (owed-in (now owed))) ≡ true ⌝ }
@@ -56,45 +76,74 @@ fn decide(shares: &[u32], wants: &[u8], owed: &[i64]) -> Turn
     let mut cost = 0;
     for (guest, ((share, want), amount)) in shares.iter().zip(wants.iter()).zip(owed.iter()).enumerate() {
         if *want == 1 {
-            let share = i64::from(*share);
-            let candidate = Candidate { guest, claim: *amount + share };
+            let candidate = Candidate::new(guest, *share, *amount);
             if candidate.beats(best) {
                 best = Some(candidate);
             }
-            cost += share;
+            cost = with_share(cost, *share);
         }
     }
     Turn { runner: best.unwrap().guest, cost }
 }
 
-// Each who wants earns its share, and the runner pays.
+// Who does not want earns nothing.
+fn earned(share: u32, want: u8) -> i64
+    ensures { λ r. ⌜ r ≡ pos (cond (eqb want 1) share 0) ⌝ }
+{
+    if want == 1 { i64::from(share) } else { 0 }
+}
+
+impl Turn {
+    // Only the runner pays.
+    fn paid_by(self, guest: usize) -> i64
+        ensures { λ r. ⌜ r ≡ cond (eqb guest (self .runner)) (self .cost) (pos 0) ⌝ }
+    {
+        if guest == self.runner { self.cost } else { 0 }
+    }
+}
+
+// What a guest is owed after a slice, from what it was owed before, earned and paid.
+fn settled(amount: i64, earned: i64, paid: i64) -> i64
+    requires { ⌜ natAbs amount ≤ 4096000 ⌝ ∗ ⌜ natAbs earned ≤ 1000 ⌝ ∗ ⌜ natAbs paid ≤ 64000 ⌝ }
+    ensures { λ r. ⌜ r ≡ (amount +ℤ earned) -ℤ paid ⌝ }
+{
+    amount + earned - paid
+}
+
 fn settle(turn: Turn, shares: &[u32], wants: &[u8], owed: &mut [i64])
     requires taken { ⌜ fault (now shares) (now wants) (now owed) ≡ None ⌝ }
     requires turn { ⌜ Decides (host-in (now shares)) (wants-in (now wants)) (owed-in (now owed)) turn ⌝ }
     ensures { λ _. ⌜ Settles (now (shares .entry)) (now (wants .entry)) (now (owed .entry)) (now (owed .exit)) ⌝ }
 {
     for (guest, amount) in owed.iter_mut().enumerate() {
-        if wants[guest] == 1 {
-            *amount += i64::from(shares[guest]);
-        }
+        *amount = settled(*amount, earned(shares[guest], wants[guest]), turn.paid_by(guest));
     }
-    owed[turn.runner] -= turn.cost;
 }
 
-pub fn slice(shares: &[u32], wants: &[u8], owed: &mut [i64]) -> Done
-    ensures says { λ r. ⌜ Slice-says (fault (now (shares .entry)) (now (wants .entry)) (now (owed .entry))) (now (shares .entry)) (now (wants .entry)) (now (owed .entry)) (now (owed .exit)) r ⌝ }
+// A slice of lists that are taken.
+fn give(runnable: Runnable, shares: &[u32], wants: &[u8], owed: &mut [i64]) -> Done
+    requires taken { ⌜ fault (now shares) (now wants) (now owed) ≡ None ⌝ }
+    requires runnable { ⌜ runnable .bits ≡ wants-bits (now wants) ⌝ }
+    ensures answers { λ r. ⌜ r ≡ answer (runner (host-in (now (shares .entry))) (wants-in (now (wants .entry))) (owed-in (now (owed .entry)))) ⌝ }
+    ensures settles { λ _. ⌜ Settles (now (shares .entry)) (now (wants .entry)) (now (owed .entry)) (now (owed .exit)) ⌝ }
     ensures keeps { λ r. ⌜ Slice-keeps (now (shares .entry)) (now (wants .entry)) (now (owed .entry)) (now (owed .exit)) r ⌝ }
 {
-    let runnable = match check(shares, wants, owed) {
-        Ok(runnable) => runnable,
-        Err(fault) => return Done::Refused(fault.refusal().number),
-    };
     if runnable.count() == 0 {
         return Done::Idle;
     }
     let turn = decide(shares, wants, owed);
     settle(turn, shares, wants, owed);
     Done::Works(turn.runner as u64)
+}
+
+pub fn slice(shares: &[u32], wants: &[u8], owed: &mut [i64]) -> Done
+    ensures says { λ r. ⌜ Slice-says (fault (now (shares .entry)) (now (wants .entry)) (now (owed .entry))) (now (shares .entry)) (now (wants .entry)) (now (owed .entry)) (now (owed .exit)) r ⌝ }
+    ensures keeps { λ r. ⌜ Slice-keeps (now (shares .entry)) (now (wants .entry)) (now (owed .entry)) (now (owed .exit)) r ⌝ }
+{
+    match check(shares, wants, owed) {
+        Ok(runnable) => give(runnable, shares, wants, owed),
+        Err(fault) => Done::Refused(fault.refusal().number),
+    }
 }
 
 // Who runs in twelve slices on a host with the shares 1, 2 and 3 where all want all the while: an example to compare with.

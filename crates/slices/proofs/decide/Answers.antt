@@ -13,19 +13,27 @@ use Rattle.slices.specs.Answers.{takes-turn}
 use Rattle.slices.specs.Rule.{claim, earned, runner-below}
 use Rattle.slices.proofs.Beside.{beside-turn, beside-end}
 use Rattle.slices.proofs.Deciding.{so-far-asleep, so-far-takes, so-far-keeps, so-far-some, so-far-runner, candidate-is}
-use Rattle.slices.proofs.Ranges.{claim-fits, claim-is, cost-fits, cost-is}
+use Rattle.slices.proofs.Ranges.{owed-most, claim-is, cost-most, cost-is}
 use Rattle.slices.proofs.decide.Needs as need
 use Rattle.slices.proofs.decide.Needs.{then-beats, else-beats}
 
-pub add-candidate : need.add-candidate
-add-candidate c =
-    let at = beside-turn (c .args .shares .now) (c .args .wants .now) (c .args .owed .now) (c .loop-guest .guest-iterator) (c .next .last .self) (c .loop-guest .inv .2) (c .in-Some .ensures tt .steps) in
-    claim-fits (c .args .shares .now) (c .args .wants .now) (c .args .owed .now) (taken _ _ _ (c .pre .taken)) (enumerate-count (c .loop-guest .guest-iterator)) (at .within) _ _ (at .owed) (c .from-share .ensures ∙ ap pos (at .share))
+pub new-candidate-requires : need.new-candidate-requires
+new-candidate-requires c κs =
+    let ss = c .args .shares .now in
+    let ws = c .args .wants .now in
+    let os = c .args .owed .now in
+    let t = taken ss ws os (c .pre .taken) in
+    let at = beside-turn ss ws os (c .loop-guest .guest-iterator) (c .next .last .self) (c .loop-guest .inv .2) (c .in-Some .ensures tt .steps) in
+    (owed-most ss ws os t (enumerate-count (c .loop-guest .guest-iterator)) (at .within) _ (at .owed), rw (at .share) (t .share-most _ (at .within)))
 
-pub add-cost : need.add-cost
-add-cost c =
-    let at = beside-turn (c .args .shares .now) (c .args .wants .now) (c .args .owed .now) (c .loop-guest .guest-iterator) (c .next .last .self) (c .loop-guest .inv .2) (c .in-Some .ensures tt .steps) in
-    cost-fits (c .args .shares .now) (c .args .wants .now) (c .args .owed .now) (taken _ _ _ (c .pre .taken)) (enumerate-count (c .loop-guest .guest-iterator)) (at .within) _ _ (c .loop-guest .inv .3 .cost-is) (c .from-share .ensures ∙ ap pos (at .share))
+pub with-share-cost-requires : need.with-share-cost-requires
+with-share-cost-requires c κs =
+    let ss = c .args .shares .now in
+    let ws = c .args .wants .now in
+    let os = c .args .owed .now in
+    let t = taken ss ws os (c .pre .taken) in
+    let at = beside-turn ss ws os (c .loop-guest .guest-iterator) (c .next .last .self) (c .loop-guest .inv .2) (c .in-Some .ensures tt .steps) in
+    (cost-most ss ws os t (enumerate-count (c .loop-guest .guest-iterator)) (at .within) _ (c .loop-guest .inv .3 .cost-is), rw (at .share) (t .share-most _ (at .within)))
 
 pub loop-guest-again-then-want-eq1 : need.loop-guest-again-then-want-eq1
 loop-guest-again-then-want-eq1 c =
@@ -36,14 +44,13 @@ loop-guest-again-then-want-eq1 c =
     let i = enumerate-count (c .loop-guest .guest-iterator) in
     let at = beside-turn ss ws os (c .loop-guest .guest-iterator) (c .next .last .self) (c .loop-guest .inv .2) (c .in-Some .ensures tt .steps) in
     let t = taken ss ws os (c .pre .taken) in
-    let share = c .from-share .ensures ∙ ap pos (at .share) in
     let awake : wants-in ws i ≡ true = eq-eqb _ 1 (sym (at .want) ∙ c .if-want-eq1 .taken) in
-    let claims = claim-is ss ws os t i (at .within) (c .in-Some .amount .now) (c .from-share .result) (at .owed) share awake in
-    let pays = cost-is ss ws os t i (at .within) _ (c .from-share .result) (c .loop-guest .inv .3 .cost-is) share in
+    let claims = c .new-candidate .ensures .claim ∙ claim-is ss ws os t i (at .within) _ (at .owed) _ (at .share) awake in
+    let pays = cost-is ss ws os t i (at .within) _ (c .loop-guest .inv .3 .cost-is) _ _ (at .share) (c .with-share-cost .ensures) in
     (search needs, search needs, at .rest,
      elim (c .if-beats .came) [
        then-beats w ↦ so-far-takes (host-in ss) (wants-in ws) q i _ (at .next) _ _ (c .loop-guest .inv .3) _ _ pays awake
-         (w .best-is ∙ ap Some (candidate-is q _ i _ (c .in-Some .ensures tt .steps .1) claims))
+         (w .best-is ∙ ap Some (candidate-is q (c .new-candidate .result) i (c .new-candidate .ensures .guest ∙ c .in-Some .ensures tt .steps .1) claims))
          (sym (ap (λ z. takes-turn z (c .loop-guest .best)) claims) ∙ sym (c .beats .ensures) ∙ w .if-beats .taken)
      | else-beats w ↦ so-far-keeps (host-in ss) (wants-in ws) q i _ (at .next) _ _ (c .loop-guest .inv .3) _ _ pays awake
          (w .best-is)
