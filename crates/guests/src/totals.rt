@@ -1,6 +1,6 @@
 // How many guests a host has and what their shares come to, once the shares are taken; and the checks that need no more.
 ghost use Prim.Native.Nat.{_≤_};
-ghost use Rattle.guests.specs.Faults.{Checks, shares-fault, wants-fault, owed-fault};
+ghost use Rattle.guests.specs.Faults.{Checks, share-ok, shares-fault, wants-fault, owed-fault};
 ghost use Rattle.guests.specs.Guests.{host-in, total, wants-bits};
 ghost use lib.IntN.{pos, natAbs};
 ghost use lib.ListN.{length};
@@ -17,6 +17,12 @@ pub struct Totals {
     ghost few: { (guests ≤ 64) × (pos 0 ≤ℤ share) × (share ≤ℤ pos 64000) },
 }
 
+fn share_ok(share: u32) -> bool
+    ensures { λ r. ⌜ r ≡ share-ok share ⌝ }
+{
+    share >= 1 && share <= Plan::MAX_SHARE
+}
+
 impl Totals {
     pub fn of(shares: &[u32]) -> Result<Totals, Fault>
         ensures { λ r. ⌜ Checks (shares-fault (now (shares .entry))) (λ t. (t .guests ≡ length (now (shares .entry))) × (t .share ≡ pos (total (host-in (now (shares .entry)))))) r ⌝ }
@@ -29,7 +35,7 @@ impl Totals {
         }
         let mut total = 0;
         for (guest, share) in shares.iter().enumerate() {
-            if *share == 0 || *share > Plan::MAX_SHARE {
+            if !share_ok(*share) {
                 return Err(Fault::ShareOutOfRange(guest));
             }
             total += i64::from(*share);

@@ -1,11 +1,12 @@
-use mathlib.Core.Bool.{false, true}
-use mathlib.Core.Path.{_≡_, refl, _∙_, ap}
-use Prim.Native.Nat.{_<_, _≤_}
+use mathlib.Core.Bool.{true}
+use mathlib.Core.Path.{_≡_, refl, sym, _∙_, ap}
+use Prim.Native.Nat.{_≤_}
 use borrow.Author.Needs.{needs}
 use lib.IntN.{pos}
 use lib.ListN.{getD, length}
 use native.Mathlib.Omega.{arith}
 use Rattle.std.proofs.shelf.Signed.{ints}
+use Rattle.std.proofs.shelf.Tests.{and-parts, leb-true}
 use Rattle.std.proofs.shelf.Ways.{tells}
 use Rattle.guests.specs.Faults.{share-ok}
 use Rattle.guests.specs.Guests.{host-in, sum-below}
@@ -13,19 +14,18 @@ use Rattle.guests.proofs.Failing.{first-failing-here, first-failing-none, pass
 use Rattle.guests.proofs.Sums.{sum-below-more}
 use Rattle.guests.specs.declared.faults.Fault.the-variants.{ShareOutOfRange}
 use Rattle.guests.proofs.totals.Totals.of.Needs as need
-use Rattle.guests.proofs.totals.Totals.of.Needs.{then-share-eq0·by·then-share-eq0, then-share-eq0·by·else-share-eq0·then-share-gt-MAX-SHARE}
 
-pub returns-then-share-eq0 : need.returns-then-share-eq0
-returns-then-share-eq0 c =
-    let fails : share-ok (getD (c .args .shares .now) (c .loop-guest .guest) 0) ≡ false =
-        elim (c .then-share-eq0 .came) [ then-share-eq0·by·then-share-eq0 w ↦ grind (arith, tells) | then-share-eq0·by·else-share-eq0·then-share-gt-MAX-SHARE w ↦ grind (arith, tells) ] in
+pub returns-then-not-share-ok : need.returns-then-not-share-ok
+returns-then-not-share-ok c =
     shares-fault-is (c .args .shares .now) _ (omega arith) (c .if-shares-gt-MAX-GUESTS .left)
-    (first-failing-here share-ok (c .args .shares .now) 0 ShareOutOfRange (c .loop-guest .guest) (c .loop-guest-test .taken) fails (c .loop-guest .inv .0))
+    (first-failing-here share-ok (c .args .shares .now) 0 ShareOutOfRange (c .loop-guest .guest) (c .loop-guest-test .taken) (sym (c .share-ok .ensures) ∙ c .if-not-share-ok .taken) (c .loop-guest .inv .0))
 
 pub loop-guest-again : need.loop-guest-again
 loop-guest-again c =
+    let passes : share-ok (getD (c .args .shares .now) (c .loop-guest .guest) 0) ≡ true = sym (c .share-ok .ensures) ∙ c .if-not-share-ok .left in
+    let most : getD (c .args .shares .now) (c .loop-guest .guest) 0 ≤ 1000 = leb-true _ 1000 (and-parts _ _ passes .1) in
     let more = sum-below-more (c .loop-guest .guest) (host-in (c .args .shares .now) .share) in
-    (passed-more share-ok (c .args .shares .now) 0 (c .loop-guest .guest) (c .loop-guest-test .taken) (grind (arith, tells)) (c .loop-guest .inv .0),
+    (passed-more share-ok (c .args .shares .now) 0 (c .loop-guest .guest) (c .loop-guest-test .taken) passes (c .loop-guest .inv .0),
      omega (arith, ints), omega (arith, ints))
 
 pub returns : need.returns
