@@ -16,7 +16,7 @@ pub maskL-push : (bs : List Bool) (b : Bool) → maskL (bs ++ b ∷ []) ≡ cond
 maskL-push [] b = omega arith
 maskL-push (x ∷ bs) b =
     let power : cond b 1 0 * 2 ^ suc (length bs) ≡ cond b 1 0 * 2 ^ length bs * 2 =
-        ap (λ n. cond b 1 0 * n) (pow-suc 2 (length bs)) ∙ sym (mul-assoc (cond b 1 0) (2 ^ length bs) 2) in
+    ap (λ n. cond b 1 0 * n) (pow-suc 2 (length bs)) ∙ sym (mul-assoc (cond b 1 0) (2 ^ length bs) 2) in
     omega (arith, maskL-push bs b)
 
 -- `bits |= bit << k`, where k bits are filled

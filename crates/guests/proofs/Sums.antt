@@ -42,8 +42,9 @@ pub sum-below-one : (n r c : ℕ) → r < n → sum-below n (λ g. cond (eqb g r
 sum-below-one zero r c h = absurd (omega arith)
 sum-below-one (suc n) r c h =
     elim (cases-eq n r) [
-      inl e ↦ omega (arith, sum-below-none n r c (omega arith), cond-true (eqb n r) c 0 (eq-eqb n r e))
-    | inr e ↦ omega (arith, sum-below-one n r c (omega arith), cond-false (eqb n r) c 0 (ne-eqb n r e)) ]
+      | inl e ↦ omega (arith, sum-below-none n r c (omega arith), cond-true (eqb n r) c 0 (eq-eqb n r e))
+      | inr e ↦ omega (arith, sum-below-one n r c (omega arith), cond-false (eqb n r) c 0 (ne-eqb n r e))
+    ]
 
 -- what all are owed moves by what all earn less what all pay
 pub sumℤ-below-moved : (n : ℕ) (o : ℕ → ℤ) (e p : ℕ → ℕ) → sumℤ-below n (λ g. o g +ℤ pos (e g) -ℤ pos (p g)) ≡ sumℤ-below n o +ℤ pos (sum-below n e) -ℤ pos (sum-below n p)

@@ -4,6 +4,7 @@ use mathlib.Core.List.{List}
 use mathlib.Core.Path.{_≡_, ap, _∙_, sym}
 use Prim.Native.Nat.{ℕ, _*_, _<_, _≤_}
 use native.Mathlib.Omega.{arith}
+use lib.Dec.{leb}
 use lib.IntN.{ℤ, pos, natAbs}
 use lib.ListN.{length, getD}
 use Rattle.std.proofs.shelf.Bits.{mul-le}
@@ -14,6 +15,12 @@ use Rattle.guests.specs.Guests.{host-in, owed-in, total, sum-below, sumℤ-bel
 use Rattle.guests.specs.declared.faults.Fault.the-variants.{NoGuests, TooManyGuests, ShareOutOfRange, WantsLength, WantAboveOne, OwedLength, OwedOutOfRange, OwedSumNotZero}
 use Rattle.guests.proofs.Failing.{or-else-none, fault-unless-none, each-from-first-failing}
 use Rattle.guests.proofs.Sums.{sum-below-le}
+
+pub share-ok-least : (s : ℕ) → share-ok s ≡ true → 1 ≤ s
+share-ok-least s e = leb-true 1 s (and-parts (leb 1 s) (leb s 1000) e .0)
+
+pub share-ok-most : (s : ℕ) → share-ok s ≡ true → s ≤ 1000
+share-ok-most s e = leb-true s 1000 (and-parts (leb 1 s) (leb s 1000) e .1)
 
 pub record Taken (ss ws : List ℕ) (os : List ℤ) : Type 0 where
   pub some : 0 < length ss
@@ -44,13 +51,13 @@ module _ (ss ws : List ℕ) (os : List ℤ) where
       record {
         some = ltb-true _ _ (fault-unless-none _ _ (some .0));
         few = leb-true _ _ (fault-unless-none _ _ (few .0));
-        share-least = λ g h. leb-true _ _ (and-parts _ _ (each-share g h) .0);
-        share-most = λ g h. leb-true _ _ (and-parts _ _ (each-share g h) .1);
+        share-least = λ g h. share-ok-least _ (each-share g h);
+        share-most = λ g h. share-ok-most _ (each-share g h);
         wants-long = wants-long;
         want-most = λ g h. leb-true _ _ (each-want g (rw wants-long h));
         owed-long = owed-long;
         owed-most = λ g h. ltb-true _ _ (each-owed g (rw owed-long h));
-        owed-sum = eqb-true _ _ (fault-unless-none _ _ (range .1))
+        owed-sum = eqb-true _ _ (fault-unless-none _ _ (range .1));
       }
 
 -- the numbers that arithmetic rests on

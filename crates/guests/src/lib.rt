@@ -1,8 +1,8 @@
 // Hosts and their guests: the limits, who wants to run, and which lists are refused.
 mod checks;
 mod faults;
-mod totals;
 mod plans;
+mod totals;
 mod wanting;
 
 pub use checks::check;
@@ -12,6 +12,6 @@ pub use faults::FaultPartialEq;
 pub use faults::Refusal;
 pub use faults::RefusalDebug;
 pub use faults::RefusalPartialEq;
-pub use totals::Totals;
 pub use plans::Plan;
+pub use totals::Totals;
 pub use wanting::Runnable;

@@ -7,5 +7,6 @@ pub struct Plan<'s, 'o> {
 
 impl Plan<'_, '_> {
     pub const MAX_GUESTS: usize = 64;
+
     pub const MAX_SHARE: u32 = 1000;
 }

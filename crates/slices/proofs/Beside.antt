@@ -63,7 +63,8 @@ module _ (ss ws : List ℕ) (os : List ℤ) (s t : Three) where
         want = w .1;
         owed = o .1;
         next = p .2;
-        rest = rw (p .2) (a .2, w .2, o .2, omega (arith, a .0)) }
+        rest = rw (p .2) (a .2, w .2, o .2, omega (arith, a .0));
+      }
 
   -- lists of one length end together
   pub beside-end : length ws ≡ length ss → length os ≡ length ss → Beside ss ws os s → zips (zips fronts fronts) fronts (enumerate-source s) None (enumerate-source t) → enumerate-count s ≡ length ss

@@ -45,8 +45,9 @@ module _ (h : Host) (w : Wants) (q : Owed) (i j : ℕ) (step : j ≡ i + 1) (bes
 
   pub so-far-asleep : w i ≡ false → So-far h w q j best cost
   so-far-asleep e = record {
-      best-is = s .best-is ∙ sym (ap (mapped (candidate q)) (runner-next false e));
-      cost-is = s .cost-is ∙ ap pos (omega (arith, sum-next, earned-asleep h w i e)) }
+    best-is = s .best-is ∙ sym (ap (mapped (candidate q)) (runner-next false e));
+    cost-is = s .cost-is ∙ ap pos (omega (arith, sum-next, earned-asleep h w i e));
+  }
 
   -- who wants: its claim against the best so far
   module _ (best′ : Option Candidate) (cost′ : ℤ) (is : cost′ ≡ cost +ℤ pos (h .share i)) (e : w i ≡ true) where

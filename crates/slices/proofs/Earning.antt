@@ -62,4 +62,5 @@ module _ (h : Host) (w : Wants) where
         record {
           chosen = chosen-is r runs;
           asleep = λ g b e. after g b ∙ after-asleep g e;
-          balanced = sumℤ-below-same (h .guests) o₁ (after-slice h w o) after ∙ after-balanced }
+          balanced = sumℤ-below-same (h .guests) o₁ (after-slice h w o) after ∙ after-balanced;
+        }

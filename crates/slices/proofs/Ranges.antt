@@ -73,6 +73,6 @@ module _ (ss ws : List ℕ) (os : List ℤ) (t : Taken ss ws os) where
     settled-is r is =
         read r (claim (host-in ss) (wants-in ws) (owed-in os) g -ℤ cond runs c (pos 0))
         (is ∙ ap (λ z. (z +ℤ toZ w64 (ofZ w64 e)) -ℤ toZ w64 (ofZ w64 p)) (read-owed g h a ea)
-         ∙ ap (λ z. (owed-in os g +ℤ z) -ℤ toZ w64 (ofZ w64 p)) read-earned
-         ∙ ap (λ z. claim (host-in ss) (wants-in ws) (owed-in os) g -ℤ z) read-paid)
+        ∙ ap (λ z. (owed-in os g +ℤ z) -ℤ toZ w64 (ofZ w64 p)) read-earned
+        ∙ ap (λ z. claim (host-in ss) (wants-in ws) (owed-in os) g -ℤ z) read-paid)
         (omega (arith, abs-sub (claim (host-in ss) (wants-in ws) (owed-in os) g) (cond runs c (pos 0)), abs-add (owed-in os g) (pos (earned (host-in ss) (wants-in ws) g)), owed-small ss ws os t g h, earned-most g h, cost-small))

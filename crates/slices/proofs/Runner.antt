@@ -24,15 +24,20 @@ below-suc P n below here k h = elim (cases-eq k n) [ inl e ↦ subst P (sym e) h
 -- one guest more, n: whether it wants, b, and whether its claim is greater, t
 module _ (w : Wants) (q : Owed) (n : ℕ) where
   taken-first : w n ≡ true → Chosen w q n None → Chosen w q (suc n) (Some n)
-  taken-first is c =
-      (omega arith, is, below-suc (λ k. w k ≡ true → q k ≤ℤ q n) n (λ k h e. absurd (both-ways (w k) (c k h) e)) (λ _. omega (arith, ints)),
-       λ k h e. absurd (both-ways (w k) (c k h) e))
+  taken-first is c = (
+    omega arith,
+    is,
+    below-suc (λ k. w k ≡ true → q k ≤ℤ q n) n (λ k h e. absurd (both-ways (w k) (c k h) e)) (λ _. omega (arith, ints)),
+    λ k h e. absurd (both-ways (w k) (c k h) e),
+  )
 
   taken-over : (g : ℕ) → w n ≡ true → q g <ℤ q n → Chosen w q n (Some g) → Chosen w q (suc n) (Some n)
-  taken-over g is more c =
-      (omega arith, is,
-       below-suc (λ k. w k ≡ true → q k ≤ℤ q n) n (λ k h e. let le = c .2 k h e in omega (arith, ints)) (λ _. omega (arith, ints)),
-       λ k h e. let le = c .2 k h e in omega (arith, ints))
+  taken-over g is more c = (
+    omega arith,
+    is,
+    below-suc (λ k. w k ≡ true → q k ≤ℤ q n) n (λ k h e. let le = c .2 k h e in omega (arith, ints)) (λ _. omega (arith, ints)),
+    λ k h e. let le = c .2 k h e in omega (arith, ints),
+  )
 
   kept : (g : ℕ) → (w n ≡ true → q n ≤ℤ q g) → Chosen w q n (Some g) → Chosen w q (suc n) (Some g)
   kept g less c = (omega (arith, c .0), c .1, below-suc (λ k. w k ≡ true → q k ≤ℤ q g) n (c .2) less, c .3)

@@ -26,17 +26,18 @@ module _ (ss ws : List ℕ) (os : List ℤ) where
 
   pub settled-more : (i : ℕ) (os₁ : List ℤ) (z : ℤ) → Settled i os₁ → i < length os → z ≡ after-slice (host-in ss) (wants-in ws) (owed-in os) i → Settled (i + 1) (set os₁ i z)
   settled-more i os₁ z s h is = record {
-      long = length-set os₁ i z ∙ s .long;
-      below = below-more _ i (λ g b. getD-set-other os₁ i g z (pos 0) (λ same. omega arith) ∙ s .below g b)
+    long = length-set os₁ i z ∙ s .long;
+    below = below-more _ i (λ g b. getD-set-other os₁ i g z (pos 0) (λ same. omega arith) ∙ s .below g b)
         (getD-set-same os₁ i z (pos 0) (rw (s .long) h) ∙ is);
-      above = λ g b. getD-set-other os₁ i g z (pos 0) (λ same. omega arith) ∙ s .above g (omega arith) }
+    above = λ g b. getD-set-other os₁ i g z (pos 0) (λ same. omega arith) ∙ s .above g (omega arith);
+  }
 
   -- the rule's own words for what guest g is owed after the slice in which r runs
   pub after-is : (g r : ℕ) (cost : ℤ) → runner (host-in ss) (wants-in ws) (owed-in os) ≡ Some r → cost ≡ pos (wanting (host-in ss) (wants-in ws)) → claim (host-in ss) (wants-in ws) (owed-in os) g -ℤ cond (eqb g r) cost (pos 0) ≡ after-slice (host-in ss) (wants-in ws) (owed-in os) g
   after-is g r cost runs is =
       ap (λ z. claim (host-in ss) (wants-in ws) (owed-in os) g -ℤ z)
       (ap (λ c. cond (eqb g r) c (pos 0)) is ∙ cond-pos (eqb g r) (wanting (host-in ss) (wants-in ws))
-       ∙ ap (λ x. pos (cond (is-runner x g) (wanting (host-in ss) (wants-in ws)) 0)) (sym runs))
+      ∙ ap (λ x. pos (cond (is-runner x g) (wanting (host-in ss) (wants-in ws)) 0)) (sym runs))
     where
       cond-pos : (b : Bool) (n : ℕ) → cond b (pos n) (pos 0) ≡ pos (cond b n 0)
       cond-pos true n = refl

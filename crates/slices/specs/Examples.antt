@@ -15,6 +15,9 @@ three = host-in (1 ∷ 2 ∷ 3 ∷ [])
 abbrev pub all-want : ℕ → Wants
 all-want t g = true
 
+abbrev pub turns-of-three : List ℕ
+turns-of-three = 2 ∷ 1 ∷ 0 ∷ 2 ∷ 1 ∷ 2 ∷ 2 ∷ 1 ∷ 0 ∷ 2 ∷ 1 ∷ 2 ∷ []
+
 -- these are who runs, slice by slice, and then nothing is owed
 abbrev pub Turns-of-three : List ℕ → Type 0
 Turns-of-three rs =

@@ -3,7 +3,7 @@ ghost use Prim.Native.Nat.{_≤_};
 ghost use Rattle.guests.specs.Faults.{fault};
 ghost use Rattle.guests.specs.Guests.{host-in, wants-in, owed-in, wants-bits};
 ghost use Rattle.slices.specs.Answers.{Decides, Settles, Slice-says, Slice-keeps, answer, takes-turn};
-ghost use Rattle.slices.specs.Examples.{Turns-of-three};
+ghost use Rattle.slices.specs.Examples.{Turns-of-three, turns-of-three};
 ghost use Rattle.slices.specs.Rule.{runner};
 ghost use Rattle.std.specs.Options.{isSome};
 ghost use Rattle.std.specs.declared.option.Option.the-variants.{None};
@@ -11,8 +11,8 @@ ghost use lib.Dec.{eqb};
 ghost use lib.IntN.{pos, natAbs, _+ℤ_, _-ℤ_};
 ghost use mathlib.Core.Bool.{true, cond};
 ghost use mathlib.Core.Path.{_≡_};
-use guests::check;
 use guests::Runnable;
+use guests::check;
 
 // What a slice answers.
 #[derive(Clone, Copy, PartialEq, Eq, Debug)]
@@ -45,7 +45,10 @@ impl Candidate {
         ensures guest { λ r. ⌜ r .guest ≡ guest ⌝ }
         ensures claim { λ r. ⌜ r .claim ≡ amount +ℤ pos share ⌝ }
     {
-        Candidate { guest, claim: amount + i64::from(share) }
+        Candidate {
+            guest,
+            claim: amount + i64::from(share),
+        }
     }
 
     // Only a greater claim takes the turn, so that of equals the lowest guest keeps it.
@@ -74,7 +77,11 @@ fn decide(shares: &[u32], wants: &[u8], owed: &[i64]) -> Turn
 {
     let mut best = None;
     let mut cost = 0;
-    for (guest, ((share, want), amount)) in shares.iter().zip(wants.iter()).zip(owed.iter()).enumerate() {
+    for (guest, ((share, want), amount)) in shares
+        .iter()
+        .zip(wants.iter())
+        .zip(owed.iter())
+        .enumerate() {
         if *want == 1 {
             let candidate = Candidate::new(guest, *share, *amount);
             if candidate.beats(best) {
@@ -83,7 +90,10 @@ fn decide(shares: &[u32], wants: &[u8], owed: &[i64]) -> Turn
             cost = with_share(cost, *share);
         }
     }
-    Turn { runner: best.unwrap().guest, cost }
+    Turn {
+        runner: best.unwrap().guest,
+        cost,
+    }
 }
 
 // Who does not want earns nothing.
@@ -116,7 +126,11 @@ fn settle(turn: Turn, shares: &[u32], wants: &[u8], owed: &mut [i64])
     ensures { λ _. ⌜ Settles (now (shares .entry)) (now (wants .entry)) (now (owed .entry)) (now (owed .exit)) ⌝ }
 {
     for (guest, amount) in owed.iter_mut().enumerate() {
-        *amount = settled(*amount, earned(shares[guest], wants[guest]), turn.paid_by(guest));
+        *amount = settled(
+            *amount,
+            earned(shares[guest], wants[guest]),
+            turn.paid_by(guest),
+        );
     }
 }
 
@@ -146,9 +160,59 @@ pub fn slice(shares: &[u32], wants: &[u8], owed: &mut [i64]) -> Done
     }
 }
 
+// A theorem of the rule, for the example below.
+fn turns_of_three_stand()
+    ensures { λ _. ⌜ Turns-of-three turns-of-three ⌝ }
+{}
+
 // Who runs in twelve slices on a host with the shares 1, 2 and 3 where all want all the while: an example to compare with.
 pub fn turns_of_three() -> [u8; 12]
     ensures { λ r. ⌜ Turns-of-three r ⌝ }
 {
+    turns_of_three_stand();
     [2, 1, 0, 2, 1, 2, 2, 1, 0, 2, 1, 2]
+}
+
+#[cfg(test)]
+mod tests {
+    use super::*;
+    use std::test::*;
+
+    #[test]
+    fn all_want_twelve_times() -> Result<(), Fail> {
+        let mut owed = [0; 3];
+        for guest in turns_of_three() {
+            check_eq(
+                slice(&[1, 2, 3], &[1, 1, 1], &mut owed),
+                Done::Works(u64::from(guest)),
+            )?;
+        }
+        check_eq(owed, [0, 0, 0])
+    }
+
+    // Guest 2 sleeps in the third and the fourth slice.
+    #[test]
+    fn who_sleeps_is_owed_what_it_was() -> Result<(), Fail> {
+        let mut owed = [0; 3];
+        check_eq(slice(&[1, 2, 3], &[1, 1, 1], &mut owed), Done::Works(2))?;
+        check_eq(slice(&[1, 2, 3], &[1, 1, 1], &mut owed), Done::Works(1))?;
+        check_eq(owed, [2, -2, 0])?;
+        check_eq(slice(&[1, 2, 3], &[1, 1, 0], &mut owed), Done::Works(0))?;
+        check_eq(slice(&[1, 2, 3], &[1, 1, 0], &mut owed), Done::Works(1))?;
+        check_eq(owed, [1, -1, 0])?;
+        check_eq(slice(&[1, 2, 3], &[1, 1, 1], &mut owed), Done::Works(2))?;
+        check_eq(slice(&[1, 2, 3], &[0, 0, 0], &mut owed), Done::Idle)?;
+        check_eq(slice(&[1, 2, 3], &[1, 1, 1], &mut owed), Done::Works(0))?;
+        check_eq(slice(&[1, 2, 3], &[1, 1, 1], &mut owed), Done::Works(1))?;
+        check_eq(owed, [-2, -1, 3])
+    }
+
+    #[test]
+    fn a_refusal_changes_nothing() -> Result<(), Fail> {
+        let mut owed = [5, -5];
+        check_eq(slice(&[1, 1001], &[1, 1], &mut owed), Done::Refused(1))?;
+        check_eq(slice(&[1, 2], &[1, 2], &mut owed), Done::Refused(2))?;
+        check_eq(slice(&[1, 1], &[1, 1], &mut owed), Done::Refused(3))?;
+        check_eq(owed, [5, -5])
+    }
 }

@@ -46,25 +46,32 @@ loop-guest-again-then-want-eq1 c =
     let t = taken ss ws os (c .pre .taken) in
     let awake : wants-in ws i ≡ true = eq-eqb _ 1 (sym (at .want) ∙ c .if-want-eq1 .taken) in
     let claims = c .new-candidate .ensures .claim ∙ claim-is ss ws os t i (at .within) _ (at .owed) _ (at .share) awake in
-    let pays = cost-is ss ws os t i (at .within) _ (c .loop-guest .inv .3 .cost-is) _ _ (at .share) (c .with-share-cost .ensures) in
-    (search needs, search needs, at .rest,
-     elim (c .if-beats .came) [
-       then-beats w ↦ so-far-takes (host-in ss) (wants-in ws) q i _ (at .next) _ _ (c .loop-guest .inv .3) _ _ pays awake
-         (w .best-is ∙ ap Some (candidate-is q (c .new-candidate .result) i (c .new-candidate .ensures .guest ∙ c .in-Some .ensures tt .steps .1) claims))
-         (sym (ap (λ z. takes-turn z (c .loop-guest .best)) claims) ∙ sym (c .beats .ensures) ∙ w .if-beats .taken)
-     | else-beats w ↦ so-far-keeps (host-in ss) (wants-in ws) q i _ (at .next) _ _ (c .loop-guest .inv .3) _ _ pays awake
-         (w .best-is)
-         (sym (ap (λ z. takes-turn z (c .loop-guest .best)) claims) ∙ sym (c .beats .ensures) ∙ w .if-beats .left) ])
+    let pays = cost-is ss ws os t i (at .within) _ (c .loop-guest .inv .3 .cost-is) _ _ (at .share) (c .with-share-cost .ensures) in (
+      search needs,
+      search needs,
+      at .rest,
+      elim (c .if-beats .came) [
+        | then-beats w ↦ so-far-takes (host-in ss) (wants-in ws) q i _ (at .next) _ _ (c .loop-guest .inv .3) _ _ pays awake
+            (w .best-is ∙ ap Some (candidate-is q (c .new-candidate .result) i (c .new-candidate .ensures .guest ∙ c .in-Some .ensures tt .steps .1) claims))
+            (sym (ap (λ z. takes-turn z (c .loop-guest .best)) claims) ∙ sym (c .beats .ensures) ∙ w .if-beats .taken)
+        | else-beats w ↦ so-far-keeps (host-in ss) (wants-in ws) q i _ (at .next) _ _ (c .loop-guest .inv .3) _ _ pays awake
+            (w .best-is)
+            (sym (ap (λ z. takes-turn z (c .loop-guest .best)) claims) ∙ sym (c .beats .ensures) ∙ w .if-beats .left)
+      ],
+    )
 
 pub loop-guest-again : need.loop-guest-again
 loop-guest-again c =
     let ss = c .args .shares .now in
     let ws = c .args .wants .now in
     let os = c .args .owed .now in
-    let at = beside-turn ss ws os (c .loop-guest .guest-iterator) (c .next .last .self) (c .loop-guest .inv .2) (c .in-Some .ensures tt .steps) in
-    (search needs, search needs, at .rest,
-     so-far-asleep (host-in ss) (wants-in ws) _ (enumerate-count (c .loop-guest .guest-iterator)) _ (at .next) _ _ (c .loop-guest .inv .3)
-     (ne-eqb _ 1 (λ e. c .if-want-eq1 .left (at .want ∙ e))))
+    let at = beside-turn ss ws os (c .loop-guest .guest-iterator) (c .next .last .self) (c .loop-guest .inv .2) (c .in-Some .ensures tt .steps) in (
+      search needs,
+      search needs,
+      at .rest,
+      so-far-asleep (host-in ss) (wants-in ws) _ (enumerate-count (c .loop-guest .guest-iterator)) _ (at .next) _ _ (c .loop-guest .inv .3)
+          (ne-eqb _ 1 (λ e. c .if-want-eq1 .left (at .want ∙ e))),
+    )
 
 pub unwrap-requires : need.unwrap-requires
 unwrap-requires c κs =
@@ -83,6 +90,7 @@ returns c =
     let os = c .args .owed .now in
     let q = claim (host-in ss) (wants-in ws) (owed-in os) in
     let t = taken ss ws os (c .pre .taken) in
-    let end = beside-end ss ws os (c .loop-guest .guest-iterator) (c .next .last .self) (t .wants-long) (t .owed-long) (c .loop-guest .inv .2) (c .in-None .ensures tt .steps .0) in
-    (ap (λ (n : ℕ). runner-below (wants-in ws) q n) (sym end) ∙ so-far-runner (host-in ss) (wants-in ws) q (enumerate-count (c .loop-guest .guest-iterator)) (c .unwrap .result) _ _ (c .loop-guest .inv .3) (c .unwrap .ensures),
-     c .loop-guest .inv .3 .cost-is ∙ ap (λ (n : ℕ). pos (sum-below n (earned (host-in ss) (wants-in ws)))) end)
+    let end = beside-end ss ws os (c .loop-guest .guest-iterator) (c .next .last .self) (t .wants-long) (t .owed-long) (c .loop-guest .inv .2) (c .in-None .ensures tt .steps .0) in (
+      ap (λ (n : ℕ). runner-below (wants-in ws) q n) (sym end) ∙ so-far-runner (host-in ss) (wants-in ws) q (enumerate-count (c .loop-guest .guest-iterator)) (c .unwrap .result) _ _ (c .loop-guest .inv .3) (c .unwrap .ensures),
+      c .loop-guest .inv .3 .cost-is ∙ ap (λ (n : ℕ). pos (sum-below n (earned (host-in ss) (wants-in ws)))) end,
+    )

@@ -10,4 +10,4 @@ Inv-loop-guest l =
     given.iterator-loop-guest .can (l .guest-iterator) × given.iterator-loop-guest .ends (l .guest-iterator)
     × Beside (l .shares) (l .wants) (l .owed) (l .guest-iterator)
     × So-far (host-in (l .shares)) (wants-in (l .wants)) (claim (host-in (l .shares)) (wants-in (l .wants)) (owed-in (l .owed)))
-      (enumerate-count (l .guest-iterator)) (l .best) (l .cost)
+    (enumerate-count (l .guest-iterator)) (l .best) (l .cost)

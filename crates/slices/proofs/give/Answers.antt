@@ -22,18 +22,21 @@ returns-then-count-eq0 c =
     record {
       answers = sym (ap answer runs);
       settles = (refl, same);
-      keeps = slice-laws (host-in ss) (wants-in ws) (owed-in os) (owed-in os) None same runs }
+      keeps = slice-laws (host-in ss) (wants-in ws) (owed-in os) (owed-in os) None same runs;
+    }
 
 pub decide-turn-requires : need.decide-turn-requires
 decide-turn-requires c κs =
     let t = taken (c .args .shares .now) (c .args .wants .now) (c .args .owed .now) (c .pre .taken) in
     record {
       taken = c .pre .taken;
-      some = somebody-runs (c .args .wants .now) (c .args .shares .now) (c .args .owed .now) (t .wants-long) (λ none. c .if-count-eq0 .left (c .count .ensures ∙ ap ones (c .pre .runnable) ∙ none)) }
+      some = somebody-runs (c .args .wants .now) (c .args .shares .now) (c .args .owed .now) (t .wants-long) (λ none. c .if-count-eq0 .left (c .count .ensures ∙ ap ones (c .pre .runnable) ∙ none));
+    }
 
 pub returns : need.returns
 returns c =
     record {
       answers = sym (ap answer (c .decide-turn .ensures .0));
       settles = c .settle .ensures;
-      keeps = slice-laws (host-in (c .args .shares .now)) (wants-in (c .args .wants .now)) (owed-in (c .args .owed .now)) (owed-in (c .settle .last .owed)) (Some (c .decide-turn .result .runner)) (c .settle .ensures .1) (c .decide-turn .ensures .0) }
+      keeps = slice-laws (host-in (c .args .shares .now)) (wants-in (c .args .wants .now)) (owed-in (c .args .owed .now)) (owed-in (c .settle .last .owed)) (Some (c .decide-turn .result .runner)) (c .settle .ensures .1) (c .decide-turn .ensures .0);
+    }

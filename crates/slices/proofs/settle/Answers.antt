@@ -16,10 +16,13 @@ settled-requires c κs =
     let i = c .loop-guest .guest in
     let t = taken ss ws os (c .pre .taken) in
     let h : i < length ss = omega (arith, t .owed-long) in
-    let here = c .loop-guest .inv .above i (omega arith) in
-    (owed-most ss ws os t i h _ here,
-     (earned-read-most ss ws os t i h (eqb i (c .args .turn .runner)) _ _ _ _ here (c .earned .ensures) (c .pre .turn .1) (c .paid-by .ensures),
-      paid-read-most ss ws os t i h (eqb i (c .args .turn .runner)) _ _ _ _ here (c .earned .ensures) (c .pre .turn .1) (c .paid-by .ensures)))
+    let here = c .loop-guest .inv .above i (omega arith) in (
+      owed-most ss ws os t i h _ here,
+      (
+        earned-read-most ss ws os t i h (eqb i (c .args .turn .runner)) _ _ _ _ here (c .earned .ensures) (c .pre .turn .1) (c .paid-by .ensures),
+        paid-read-most ss ws os t i h (eqb i (c .args .turn .runner)) _ _ _ _ here (c .earned .ensures) (c .pre .turn .1) (c .paid-by .ensures),
+      ),
+    )
 
 pub loop-guest-again : need.loop-guest-again
 loop-guest-again c =
@@ -32,4 +35,4 @@ loop-guest-again c =
     let here = c .loop-guest .inv .above i (omega arith) in
     settled-more ss ws os i (c .loop-guest .owed) _ (c .loop-guest .inv) (c .loop-guest-test .taken)
     (settled-is ss ws os t i h (eqb i (c .args .turn .runner)) _ _ _ _ here (c .earned .ensures) (c .pre .turn .1) (c .paid-by .ensures) _ (c .settled .ensures)
-     ∙ after-is ss ws os i (c .args .turn .runner) (c .args .turn .cost) (c .pre .turn .0) (c .pre .turn .1))
+    ∙ after-is ss ws os i (c .args .turn .runner) (c .args .turn .cost) (c .pre .turn .0) (c .pre .turn .1))

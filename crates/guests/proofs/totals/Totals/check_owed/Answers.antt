@@ -64,10 +64,11 @@ loop-guest-again c =
     let amount = abs-of x _ fits (c .unsigned-abs-in-loop-guest .ensures .value) in
     let few = c .args .self .few in
     let limit = limit-small (c .args .self .share) _ _ (abs-of (c .args .self .share) _ (search needs) (c .unsigned-abs .ensures .value)) (few .1) (few .2) (few .0) in
-    let more = sumℤ-below-more i (owed-in (c .args .owed .now)) in
-    (passed-more (amount-ok (c .unsigned-abs .result * c .args .self .guests)) (c .args .owed .now) (pos 0) i (c .loop-guest-test .taken) (lt-ltb _ _ (omega (arith, amount))) (c .loop-guest .inv .0),
-     sum-is s x (omega (arith, c .loop-guest .inv .2, amount, limit)) _ _ (c .loop-guest .inv .1) (toZ-ofZ w64 x fits) ∙ sym more,
-     rw more (omega (arith, abs-add s x, c .loop-guest .inv .2, amount, limit)))
+    let more = sumℤ-below-more i (owed-in (c .args .owed .now)) in (
+      passed-more (amount-ok (c .unsigned-abs .result * c .args .self .guests)) (c .args .owed .now) (pos 0) i (c .loop-guest-test .taken) (lt-ltb _ _ (omega (arith, amount))) (c .loop-guest .inv .0),
+      sum-is s x (omega (arith, c .loop-guest .inv .2, amount, limit)) _ _ (c .loop-guest .inv .1) (toZ-ofZ w64 x fits) ∙ sym more,
+      rw more (omega (arith, abs-add s x, c .loop-guest .inv .2, amount, limit)),
+    )
 
 pub returns-then-sum-ne0 : need.returns-then-sum-ne0
 returns-then-sum-ne0 c =
@@ -83,9 +84,10 @@ pub returns : need.returns
 returns c =
     let limit = c .unsigned-abs .result * c .args .self .guests in
     let end : c .loop-guest .guest ≡ c .args .self .guests = omega arith in
-    let sum = c .loop-guest .inv .1 ∙ ap (λ n. sumℤ-below n (owed-in (c .args .owed .now))) end in
-    (owed-fault-is (c .args .self .guests) _ limit (c .args .owed .now) _ _ (c .if-owed-self .left)
-     (ap (λ m. m * c .args .self .guests) (abs-of (c .args .self .share) _ (search needs) (c .unsigned-abs .ensures .value)))
-     (first-failing-none (amount-ok limit) (c .args .owed .now) (pos 0) OwedOutOfRange (c .loop-guest .guest) (c .loop-guest-test .left) (c .loop-guest .inv .0))
-     (eq-eqb _ 0 (abs-from-bits _ _ sum (c .if-sum-ne0 .left))),
-     tt)
+    let sum = c .loop-guest .inv .1 ∙ ap (λ n. sumℤ-below n (owed-in (c .args .owed .now))) end in (
+      owed-fault-is (c .args .self .guests) _ limit (c .args .owed .now) _ _ (c .if-owed-self .left)
+          (ap (λ m. m * c .args .self .guests) (abs-of (c .args .self .share) _ (search needs) (c .unsigned-abs .ensures .value)))
+          (first-failing-none (amount-ok limit) (c .args .owed .now) (pos 0) OwedOutOfRange (c .loop-guest .guest) (c .loop-guest-test .left) (c .loop-guest .inv .0))
+          (eq-eqb _ 0 (abs-from-bits _ _ sum (c .if-sum-ne0 .left))),
+      tt,
+    )

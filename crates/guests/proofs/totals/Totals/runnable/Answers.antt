@@ -23,14 +23,16 @@ returns-then-want-gt1 c =
 
 pub loop-guest-again : need.loop-guest-again
 loop-guest-again c =
-    let long : length (map (λ w. eqb w 1) (take (c .loop-guest .guest) (c .args .wants .now))) ≡ c .loop-guest .guest = simp (length-map, length-take) (omega arith) in
-    (passed-more want-ok (c .args .wants .now) 0 (c .loop-guest .guest) (c .loop-guest-test .taken) (grind (arith, tells)) (c .loop-guest .inv .0),
-     ap (λ n. bitOr n ((c .from .result * 2 ^ c .loop-guest .guest) % 2 ^ 64)) (c .loop-guest .inv .1)
-     ∙ maskL-fill (map (λ w. eqb w 1) (take (c .loop-guest .guest) (c .args .wants .now))) (eqb (getD (c .args .wants .now) (c .loop-guest .guest) 0) 1) (c .loop-guest .guest) (c .from .result) long (omega arith) (grind (arith, tells))
-     ∙ ap maskL (sym (map-more (λ w. eqb w 1) (c .args .wants .now) (c .loop-guest .guest) 0 (c .loop-guest-test .taken))))
+    let long : length (map (λ w. eqb w 1) (take (c .loop-guest .guest) (c .args .wants .now))) ≡ c .loop-guest .guest = simp (length-map, length-take) (omega arith) in (
+      passed-more want-ok (c .args .wants .now) 0 (c .loop-guest .guest) (c .loop-guest-test .taken) (grind (arith, tells)) (c .loop-guest .inv .0),
+      ap (λ n. bitOr n ((c .from .result * 2 ^ c .loop-guest .guest) % 2 ^ 64)) (c .loop-guest .inv .1)
+          ∙ maskL-fill (map (λ w. eqb w 1) (take (c .loop-guest .guest) (c .args .wants .now))) (eqb (getD (c .args .wants .now) (c .loop-guest .guest) 0) 1) (c .loop-guest .guest) (c .from .result) long (omega arith) (grind (arith, tells))
+          ∙ ap maskL (sym (map-more (λ w. eqb w 1) (c .args .wants .now) (c .loop-guest .guest) 0 (c .loop-guest-test .taken))),
+    )
 
 pub returns : need.returns
-returns c =
-    (wants-fault-is (c .args .self .guests) (c .args .wants .now) _ (c .if-wants-self .left)
-     (first-failing-none want-ok (c .args .wants .now) 0 WantAboveOne (c .loop-guest .guest) (c .loop-guest-test .left) (c .loop-guest .inv .0)),
-     c .loop-guest .inv .1 ∙ ap wants-bits (take-all (c .loop-guest .guest) (c .args .wants .now) (c .loop-guest-test .left)))
+returns c = (
+  wants-fault-is (c .args .self .guests) (c .args .wants .now) _ (c .if-wants-self .left)
+      (first-failing-none want-ok (c .args .wants .now) 0 WantAboveOne (c .loop-guest .guest) (c .loop-guest-test .left) (c .loop-guest .inv .0)),
+  c .loop-guest .inv .1 ∙ ap wants-bits (take-all (c .loop-guest .guest) (c .args .wants .now) (c .loop-guest-test .left)),
+)

@@ -8,7 +8,7 @@ use Rattle.guests.specs.Guests.{owed-in}
 use Rattle.slices.specs.Examples.{three}
 use Rattle.slices.specs.Runs.{nothing-owed}
 use Rattle.slices.proofs.Tables.{Row, Along, along-runs, along-owed}
-use Rattle.slices.proofs.turns_of_three.Needs as need
+use Rattle.slices.proofs.turns_of_three_stand.Needs as need
 
 abbrev none : List ℤ
 none = pos 0 ∷ pos 0 ∷ pos 0 ∷ []
@@ -38,6 +38,7 @@ none-owed (suc (suc zero)) h = refl
 none-owed (suc (suc (suc g))) h = absurd (omega arith)
 
 pub returns : need.returns
-returns c =
-    (along-runs three (λ g. true) none (six ++ six) nothing-owed none-owed twelve-along,
-     λ g h. along-owed three (λ g. true) none (six ++ six) nothing-owed none-owed twelve-along g h ∙ sym (none-owed g h))
+returns c = (
+  along-runs three (λ g. true) none (six ++ six) nothing-owed none-owed twelve-along,
+  λ g h. along-owed three (λ g. true) none (six ++ six) nothing-owed none-owed twelve-along g h ∙ sym (none-owed g h),
+)
