@@ -24,6 +24,7 @@ fn share_ok(share: u32) -> bool
 }
 
 impl Totals {
+    // Of shares that are taken.
     pub fn of(shares: &[u32]) -> Result<Totals, Fault>
         ensures { λ r. ⌜ Checks (shares-fault (now (shares .entry))) (λ t. (t .guests ≡ length (now (shares .entry))) × (t .share ≡ pos (total (host-in (now (shares .entry)))))) r ⌝ }
     {

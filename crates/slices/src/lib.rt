@@ -1,4 +1,9 @@
-// One slice of a host's time: each who wants earns its share, and who is then owed most runs and pays for all of them.
+// One slice of a host's time.
+//
+// Each guest that wants to run is owed its share more. Of those the one that is then owed most runs, of equals the
+// lowest, and pays the shares of all who want. A guest that does not want neither earns nor pays: it is owed afterwards
+// what it was owed before. What is earned is what is paid, so what is owed comes to nothing, all together, as before.
+// Lists past a limit are refused by a number, and nothing of them is changed.
 ghost use Prim.Native.Nat.{_≤_};
 ghost use Rattle.guests.specs.Faults.{fault};
 ghost use Rattle.guests.specs.Guests.{host-in, wants-in, owed-in, wants-bits};
