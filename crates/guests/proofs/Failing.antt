@@ -1,7 +1,7 @@
 -- What `first-failing` finds, from how far a loop has come: at place i the entries before it have passed.
 use mathlib.Core.Bool.{Bool, true, false, cond}
 use mathlib.Core.List.{List, [], _∷_}
-use mathlib.Core.Path.{_≡_, refl, sym, _∙_, ap, subst}
+use mathlib.Core.Path.{_≡_, refl, sym, _∙_, ap}
 use Prim.Native.Nat.{ℕ, zero, suc, _+_, _<_, _≤_, _*_, min}
 use native.Mathlib.Omega.{arith}
 use lib.Dec.{eqb, ltb, leb}
@@ -22,9 +22,6 @@ abbrev pub Passed : {X : Type 0} → (X → Bool) → List X → ℕ → Type 0
 Passed ok xs i = leading ok xs ≡ i + leading ok (drop i xs)
 
 module _ {X : Type 0} (ok : X → Bool) (xs : List X) (d : X) where
-  pub passed-none : Passed ok xs 0
-  passed-none = omega arith
-
   pub passed-more : (i : ℕ) → i < length xs → ok (getD xs i d) ≡ true → Passed ok xs i → Passed ok xs (i + 1)
   passed-more i h passes p = omega (arith, leading-drop-yes ok xs i d h passes)
 
@@ -38,12 +35,9 @@ module _ {X : Type 0} (ok : X → Bool) (xs : List X) (d : X) where
       ap (λ b. fault-unless b (at (leading ok xs)))
       (eq-eqb (leading ok xs) (length xs) (omega (arith, leading-drop-all ok xs i h, leading-le-length ok xs)))
 
--- a check that passes leaves the answer to the next, and one that fails gives it
+-- a check that passes leaves the answer to the next
 pub or-else-passed : (b : Bool) (f : Fault) (next : Option Fault) → b ≡ true → or-else (fault-unless b f) next ≡ next
 or-else-passed b f next e = ap (λ t. or-else (fault-unless t f) next) e
-
-pub or-else-failed : (b : Bool) (f : Fault) (next : Option Fault) → b ≡ false → or-else (fault-unless b f) next ≡ Some f
-or-else-failed b f next e = ap (λ t. or-else (fault-unless t f) next) e
 
 pub shares-fault-is : (ss : List ℕ) (r : Option Fault) → 0 < length ss → length ss ≤ 64 → first-failing share-ok ShareOutOfRange ss ≡ r → shares-fault ss ≡ r
 shares-fault-is ss r some few e =

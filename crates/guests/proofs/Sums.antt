@@ -1,6 +1,6 @@
 -- Sums over the guests below n: one guest more, bounds, and sums of sums.
-use mathlib.Core.Bool.{Bool, true, false, cond}
-use mathlib.Core.Path.{_≡_, ap, sym, _∙_}
+use mathlib.Core.Bool.{cond}
+use mathlib.Core.Path.{_≡_, ap}
 use Prim.Native.Nat.{ℕ, zero, suc, _+_, _*_, _<_, _≤_}
 use native.Mathlib.Numerals.{add-one}
 use native.Mathlib.Omega.{arith}
@@ -16,10 +16,6 @@ sum-below-more n f = ap (λ k. sum-below k f) (add-one n)
 
 pub sumℤ-below-more : (n : ℕ) (f : ℕ → ℤ) → sumℤ-below (n + 1) f ≡ sumℤ-below n f +ℤ f n
 sumℤ-below-more n f = ap (λ k. sumℤ-below k f) (add-one n)
-
-pub sum-below-same : (n : ℕ) (f g : ℕ → ℕ) → ((k : ℕ) → k < n → f k ≡ g k) → sum-below n f ≡ sum-below n g
-sum-below-same zero f g same = omega arith
-sum-below-same (suc n) f g same = omega (arith, sum-below-same n f g (λ k h. same k (omega arith)), same n (omega arith))
 
 pub sumℤ-below-same : (n : ℕ) (f g : ℕ → ℤ) → ((k : ℕ) → k < n → f k ≡ g k) → sumℤ-below n f ≡ sumℤ-below n g
 sumℤ-below-same zero f g same = omega (arith, ints)

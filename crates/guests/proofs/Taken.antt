@@ -1,7 +1,7 @@
 -- What holds of three lists that are taken: the checks found no fault.
 use mathlib.Core.Bool.{true}
 use mathlib.Core.List.{List}
-use mathlib.Core.Path.{_≡_, ap, _∙_, sym}
+use mathlib.Core.Path.{_≡_}
 use Prim.Native.Nat.{ℕ, _*_, _<_, _≤_}
 use native.Mathlib.Omega.{arith}
 use lib.Dec.{leb}
@@ -10,9 +10,9 @@ use lib.ListN.{length, getD}
 use Rattle.std.proofs.shelf.Bits.{mul-le}
 use Rattle.std.proofs.shelf.Tests.{and-parts, leb-true, ltb-true, eqb-true}
 use Rattle.std.specs.declared.option.Option.the-variants.{None}
-use Rattle.guests.specs.Faults.{fault, shares-fault, wants-fault, owed-fault, first-failing, fault-unless, or-else, share-ok, want-ok, amount-ok}
-use Rattle.guests.specs.Guests.{host-in, owed-in, total, sum-below, sumℤ-below}
-use Rattle.guests.specs.declared.faults.Fault.the-variants.{NoGuests, TooManyGuests, ShareOutOfRange, WantsLength, WantAboveOne, OwedLength, OwedOutOfRange, OwedSumNotZero}
+use Rattle.guests.specs.Faults.{fault, shares-fault, wants-fault, first-failing, fault-unless, share-ok, want-ok, amount-ok}
+use Rattle.guests.specs.Guests.{host-in, owed-in, total, sumℤ-below}
+use Rattle.guests.specs.declared.faults.Fault.the-variants.{NoGuests, TooManyGuests, ShareOutOfRange, WantsLength, WantAboveOne, OwedLength, OwedOutOfRange}
 use Rattle.guests.proofs.Failing.{or-else-none, fault-unless-none, each-from-first-failing}
 use Rattle.guests.proofs.Sums.{sum-below-le}
 

@@ -1,7 +1,6 @@
 // Who wants to run in a slice, one bit for each guest.
-ghost use Prim.Native.Nat.{_/_, _%_, _^_};
+ghost use Prim.Native.Nat.{_/_};
 ghost use lib.Count.{ones};
-ghost use lib.Dec.{eqb};
 ghost use mathlib.Core.Path.{_≡_};
 
 #[derive(Clone, Copy, PartialEq, Eq, Debug)]

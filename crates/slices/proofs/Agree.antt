@@ -1,6 +1,6 @@
 -- A slice looks at the guests that there are, and at nothing past them: where what is owed agrees there, so do the runner and what is owed after it.
 use mathlib.Core.Bool.{cond, _&&_}
-use mathlib.Core.Path.{_≡_, refl, sym, _∙_, ap}
+use mathlib.Core.Path.{_≡_, refl, _∙_, ap}
 use Prim.Native.Nat.{ℕ, zero, suc, _<_}
 use native.Mathlib.Omega.{arith}
 use lib.IntN.{pos, _+ℤ_, _-ℤ_}

@@ -1,19 +1,14 @@
 -- The search for the runner, guest by guest: the best candidate so far, and the shares of those who want so far.
 use mathlib.Core.Bool.{Bool, true, false, cond, _&&_}
-use mathlib.Core.List.{List}
 use mathlib.Core.Path.{_≡_, refl, sym, _∙_, ap}
-use Prim.Native.Nat.{ℕ, _+_, _<_, _≤_}
+use Prim.Native.Nat.{ℕ, _+_}
 use native.Mathlib.Omega.{arith}
-use lib.Dec.{eqb}
 use lib.IntN.{ℤ, pos, _+ℤ_}
-use lib.ListN.{getD}
-use lib.Signed.{ltZ}
 use Rattle.std.proofs.shelf.Signed.{ints}
-use Rattle.std.proofs.shelf.Tests.{cond-true, cond-false, eq-eqb, ne-eqb}
 use Rattle.std.specs.Options.{isSome, mapped}
 use Rattle.std.specs.declared.option.Option.{Option}
 use Rattle.std.specs.declared.option.Option.the-variants.{Some, None}
-use Rattle.guests.specs.Guests.{Host, Wants, Owed, host-in, wants-in, owed-in, sum-below}
+use Rattle.guests.specs.Guests.{Host, Wants, Owed, sum-below}
 use Rattle.guests.proofs.Sums.{sum-below-more}
 use Rattle.slices.specs.Answers.{takes-turn}
 use Rattle.slices.specs.Rule.{beats, claim, earned, runner-below}

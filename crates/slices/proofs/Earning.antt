@@ -1,17 +1,14 @@
 -- What guests earn and pay in a slice, and the laws that follow.
-use mathlib.Core.Bool.{Bool, true, false, cond}
-use mathlib.Core.List.{List}
-use mathlib.Core.Path.{_≡_, refl, sym, _∙_, ap, subst}
-use Prim.Native.Nat.{ℕ, zero, suc, _+_, _*_, _<_, _≤_}
+use mathlib.Core.Bool.{true, false, cond}
+use mathlib.Core.Path.{_≡_, refl, _∙_, ap, subst}
+use Prim.Native.Nat.{ℕ, _<_}
 use native.Mathlib.Omega.{arith}
 use lib.Dec.{eqb}
-use lib.IntN.{ℤ, pos, natAbs, _+ℤ_, _-ℤ_}
-use lib.ListN.{length, getD}
 use Rattle.std.proofs.shelf.Signed.{ints}
-use Rattle.std.proofs.shelf.Tests.{cond-true, cond-false, cond-both, ne-eqb, both-ways}
+use Rattle.std.proofs.shelf.Tests.{cond-true, cond-false, ne-eqb, both-ways}
 use Rattle.std.specs.declared.option.Option.{Option}
 use Rattle.std.specs.declared.option.Option.the-variants.{Some, None}
-use Rattle.guests.specs.Guests.{Host, Wants, Owed, host-in, sum-below, sumℤ-below}
+use Rattle.guests.specs.Guests.{Host, Wants, Owed, sum-below, sumℤ-below}
 use Rattle.guests.proofs.Sums.{sum-below-le, sum-below-one, sumℤ-below-moved, sumℤ-below-same}
 use Rattle.slices.specs.Laws.{Chosen, Slice-laws}
 use Rattle.slices.specs.Rule.{earned, wanting, claim, runner, is-runner, paid, after-slice}

@@ -1,7 +1,7 @@
 -- The rule's runner is the one that the laws choose.
 use mathlib.Core.Bool.{Bool, true, false, cond, _&&_}
 use mathlib.Core.Logic.{inl, inr}
-use mathlib.Core.Path.{_≡_, refl, sym, _∙_, ap, subst}
+use mathlib.Core.Path.{_≡_, refl, sym, ap, subst}
 use Prim.Native.Nat.{ℕ, zero, suc, _+_, _<_}
 use native.Mathlib.Numerals.{add-one}
 use native.Mathlib.Omega.{arith}
@@ -11,7 +11,7 @@ use Rattle.std.proofs.shelf.Signed.{ints}
 use Rattle.std.proofs.shelf.Tests.{cases-eq, both-ways}
 use Rattle.std.specs.declared.option.Option.{Option}
 use Rattle.std.specs.declared.option.Option.the-variants.{Some, None}
-use Rattle.guests.specs.Guests.{Host, Wants, Owed}
+use Rattle.guests.specs.Guests.{Wants, Owed}
 use Rattle.slices.specs.Laws.{Chosen}
 use Rattle.slices.specs.Rule.{beats, runner-below}
 

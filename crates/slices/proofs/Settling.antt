@@ -11,7 +11,6 @@ use lib.ListN.{length, set}
 use Rattle.std.proofs.shelf.Lists.{length-set, getD-set-same, getD-set-other}
 use Rattle.std.specs.declared.option.Option.the-variants.{Some}
 use Rattle.guests.specs.Guests.{host-in, wants-in, owed-in}
-use Rattle.slices.specs.Answers.{Settles}
 use Rattle.slices.specs.Rule.{claim, wanting, runner, is-runner, after-slice}
 
 module _ (ss ws : List ℕ) (os : List ℤ) where
@@ -20,9 +19,6 @@ module _ (ss ws : List ℕ) (os : List ℤ) where
     pub long : length os₁ ≡ length os
     pub below : (g : ℕ) → g < i → owed-in os₁ g ≡ after-slice (host-in ss) (wants-in ws) (owed-in os) g
     pub above : (g : ℕ) → i ≤ g → owed-in os₁ g ≡ owed-in os g
-
-  pub settled-none : Settled 0 os
-  settled-none = record { long = refl; below = λ g h. absurd (omega arith); above = λ g h. refl }
 
   pub settled-more : (i : ℕ) (os₁ : List ℤ) (z : ℤ) → Settled i os₁ → i < length os → z ≡ after-slice (host-in ss) (wants-in ws) (owed-in os) i → Settled (i + 1) (set os₁ i z)
   settled-more i os₁ z s h is = record {

@@ -1,7 +1,5 @@
 use mathlib.Core.Bool.{true}
 use mathlib.Core.Path.{_≡_, refl, sym, _∙_, ap}
-use Prim.Native.Nat.{_≤_}
-use borrow.Author.Needs.{needs}
 use lib.IntN.{pos}
 use lib.ListN.{getD, length}
 use native.Mathlib.Omega.{arith}

@@ -1,7 +1,6 @@
-use mathlib.Core.Bool.{true, false}
-use mathlib.Core.List.{map, _++_, [], _∷_}
+use mathlib.Core.List.{map}
 use mathlib.Core.Path.{_≡_, sym, _∙_, ap}
-use Prim.Native.Nat.{_*_, _^_, _%_, _<_}
+use Prim.Native.Nat.{_*_, _^_, _%_}
 use lib.Bits.{bitOr}
 use lib.Dec.{eqb}
 use lib.Lanes.{maskL}
