@@ -17,19 +17,20 @@ use Rattle.std.specs.declared.option.Option.{Option}
 use Rattle.std.specs.declared.option.Option.the-variants.{Some, None}
 use Rattle.std.specs.declared.slice.Iter.{Iter}
 
-abbrev pub Three : Type 0
-Three = Enumerate (Zip (Zip (Iter ℕ) (Iter ℕ)) (Iter ℤ))
+-- the iterator over the three lists
+abbrev pub Side-by-side : Type 0
+Side-by-side = Enumerate (Zip (Zip (Iter ℕ) (Iter ℕ)) (Iter ℤ))
 
-abbrev pub shares-left : Three → List ℕ
+abbrev pub shares-left : Side-by-side → List ℕ
 shares-left s = iter-rest (zip-first (zip-first (enumerate-source s)))
 
-abbrev pub wants-left : Three → List ℕ
+abbrev pub wants-left : Side-by-side → List ℕ
 wants-left s = iter-rest (zip-second (zip-first (enumerate-source s)))
 
-abbrev pub owed-left : Three → List ℤ
+abbrev pub owed-left : Side-by-side → List ℤ
 owed-left s = iter-rest (zip-second (enumerate-source s))
 
-abbrev pub Beside : (ss ws : List ℕ) → (os : List ℤ) → Three → Type 0
+abbrev pub Beside : (ss ws : List ℕ) → (os : List ℤ) → Side-by-side → Type 0
 Beside ss ws os s =
     (shares-left s ≡ drop (enumerate-count s) ss) × (wants-left s ≡ drop (enumerate-count s) ws)
     × (owed-left s ≡ drop (enumerate-count s) os) × (enumerate-count s ≤ length ss)
@@ -42,7 +43,7 @@ drop-head xs i x ys d e =
     (h, (cc), (cc))
 
 -- at one turn, from s to t, the share x, the want v and the amount y stand at place i
-pub record Stands (ss ws : List ℕ) (os : List ℤ) (i x v : ℕ) (y : ℤ) (t : Three) : Type 0 where
+pub record Stands (ss ws : List ℕ) (os : List ℤ) (i x v : ℕ) (y : ℤ) (t : Side-by-side) : Type 0 where
   pub within : i < length ss
   pub share : x ≡ getD ss i 0
   pub want : v ≡ getD ws i 0
@@ -50,7 +51,7 @@ pub record Stands (ss ws : List ℕ) (os : List ℤ) (i x v : ℕ) (y : ℤ) (t 
   pub next : enumerate-count t ≡ i + 1
   pub rest : Beside ss ws os t
 
-module _ (ss ws : List ℕ) (os : List ℤ) (s t : Three) where
+module _ (ss ws : List ℕ) (os : List ℤ) (s t : Side-by-side) where
   pub beside-turn : {g x v : ℕ} {y : ℤ} → Beside ss ws os s → (((shares-left s ≡ x ∷ shares-left t) × (wants-left s ≡ v ∷ wants-left t)) × (owed-left s ≡ y ∷ owed-left t)) × (g ≡ enumerate-count s) × (enumerate-count t ≡ enumerate-count s + 1) × (g + 1 < 2 ^ 64) → Stands ss ws os (enumerate-count s) x v y t
   beside-turn {g} {x} {v} {y} b p =
       let i = enumerate-count s in

@@ -10,7 +10,7 @@ use Rattle.std.specs.declared.option.Option.{Option}
 use Rattle.std.specs.declared.option.Option.the-variants.{Some, None}
 use Rattle.guests.specs.Guests.{Host, Wants, Owed, sum-below}
 use Rattle.guests.proofs.Sums.{sum-below-more}
-use Rattle.slices.specs.Answers.{takes-turn}
+use Rattle.slices.specs.Steps.{takes-turn}
 use Rattle.slices.specs.Rule.{beats, claim, earned, runner-below}
 use Rattle.slices.specs.declared.Candidate.{Candidate}
 use Rattle.slices.proofs.Earning.{earned-asleep, earned-awake}

@@ -1,31 +1,18 @@
 -- What `slice` answers and leaves behind, over the lists that it is lent. Assumes nothing: these are definitions.
-use mathlib.Core.Bool.{Bool, true}
 use mathlib.Core.List.{List}
 use mathlib.Core.Path.{_≡_}
 use Prim.Native.Nat.{ℕ, _<_}
-use lib.IntN.{ℤ, pos}
+use lib.IntN.{ℤ}
 use lib.ListN.{length}
-use lib.Signed.{ltZ}
 use Rattle.std.specs.declared.option.Option.{Option}
 use Rattle.std.specs.declared.option.Option.the-variants.{Some, None}
-use Rattle.guests.specs.Guests.{Host, Wants, Owed, host-in, wants-in, owed-in}
+use Rattle.guests.specs.Guests.{host-in, wants-in, owed-in}
 use Rattle.guests.specs.Numbers.{number-of}
 use Rattle.guests.specs.declared.faults.Fault.{Fault}
 use Rattle.slices.specs.Laws.{Slice-laws}
-use Rattle.slices.specs.Rule.{runner, wanting, after-slice}
-use Rattle.slices.specs.declared.Candidate.{Candidate}
-use Rattle.slices.specs.declared.Turn.{Turn}
+use Rattle.slices.specs.Rule.{runner, after-slice}
 use Rattle.slices.specs.declared.Done.{Done}
 use Rattle.slices.specs.declared.Done.the-variants.{Works, Idle, Refused}
-
--- a claim takes the turn from the best candidate so far
-abbrev pub takes-turn : ℤ → Option Candidate → Bool
-takes-turn q None = true
-takes-turn q (Some b) = ltZ (b .claim) q
-
--- the turn that the rule gives
-abbrev pub Decides : Host → Wants → Owed → Turn → Type 0
-Decides h w o t = (runner h w o ≡ Some (t .runner)) × (t .cost ≡ pos (wanting h w))
 
 -- what is owed after a slice, as the rule has it
 abbrev pub Settles : (shares wants : List ℕ) → (owed owed₁ : List ℤ) → Type 0
@@ -43,7 +30,7 @@ Slice-says (Some f) ss ws os os₁ d = (d ≡ Refused (number-of f)) × (os₁ �
 Slice-says None ss ws os os₁ d =
     (d ≡ answer (runner (host-in ss) (wants-in ws) (owed-in os))) × Settles ss ws os os₁
 
--- the laws, of an answer that is no refusal
+-- the laws, where somebody runs or nobody wants; what is refused changes nothing
 abbrev pub Slice-keeps : (shares wants : List ℕ) → (owed owed₁ : List ℤ) → Done → Type 0
 Slice-keeps ss ws os os₁ (Works g) = Slice-laws (host-in ss) (wants-in ws) (owed-in os) (owed-in os₁) (Some g)
 Slice-keeps ss ws os os₁ Idle = Slice-laws (host-in ss) (wants-in ws) (owed-in os) (owed-in os₁) None

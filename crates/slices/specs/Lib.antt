@@ -3,3 +3,4 @@ pub mod Examples
 pub mod Laws
 pub mod Rule
 pub mod Runs
+pub mod Steps

@@ -7,9 +7,10 @@
 ghost use Prim.Native.Nat.{_≤_};
 ghost use Rattle.guests.specs.Faults.{fault};
 ghost use Rattle.guests.specs.Guests.{host-in, wants-in, owed-in, wants-bits};
-ghost use Rattle.slices.specs.Answers.{Decides, Settles, Slice-says, Slice-keeps, answer, takes-turn};
+ghost use Rattle.slices.specs.Answers.{Settles, Slice-says, Slice-keeps, answer};
 ghost use Rattle.slices.specs.Examples.{Turns-of-three, turns-of-three};
 ghost use Rattle.slices.specs.Rule.{runner};
+ghost use Rattle.slices.specs.Steps.{Decides, takes-turn};
 ghost use Rattle.std.specs.Options.{isSome};
 ghost use Rattle.std.specs.declared.option.Option.the-variants.{None};
 ghost use lib.Dec.{eqb};
