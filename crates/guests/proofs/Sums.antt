@@ -1,6 +1,6 @@
 -- Sums over the guests below n: one guest more, bounds, and sums of sums.
 use mathlib.Core.Bool.{cond}
-use mathlib.Core.Path.{_≡_, ap}
+use mathlib.Core.Path.{_≡_, refl, ap}
 use Prim.Native.Nat.{ℕ, zero, suc, _+_, _*_, _<_, _≤_}
 use native.Mathlib.Numerals.{add-one}
 use native.Mathlib.Omega.{arith}
@@ -23,6 +23,10 @@ sumℤ-below-same (suc n) f g same =
     let here = same n (omega arith) in
     let below = sumℤ-below-same n f g (λ k h. same k (omega arith)) in
     cc
+
+pub sumℤ-below-zero : (n : ℕ) → sumℤ-below n (λ _. pos 0) ≡ pos 0
+sumℤ-below-zero zero = refl
+sumℤ-below-zero (suc n) = omega (arith, ints, sumℤ-below-zero n)
 
 pub sum-below-le : (n m : ℕ) (f : ℕ → ℕ) → ((k : ℕ) → k < n → f k ≤ m) → sum-below n f ≤ m * n
 sum-below-le zero m f small = omega arith

@@ -17,8 +17,8 @@ use Rattle.std.specs.Options.{isSome}
 use Rattle.std.specs.declared.option.Option.{Option}
 use Rattle.std.specs.declared.option.Option.the-variants.{Some, None}
 use Rattle.guests.specs.Guests.{host-in, wants-in, owed-in, wants-bits}
-use Rattle.slices.specs.Rule.{runner}
-use Rattle.slices.proofs.Earning.{chosen-is}
+use Rattle.bounds.specs.Rule.{runner}
+use Rattle.bounds.proofs.Earning.{chosen-is}
 
 module _ (ws : List ℕ) where
   pub nobody-wants : ones (wants-bits ws) ≡ 0 → (g : ℕ) → g < length ws → wants-in ws g ≡ false

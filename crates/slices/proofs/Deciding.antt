@@ -11,10 +11,10 @@ use Rattle.std.specs.declared.option.Option.the-variants.{Some, None}
 use Rattle.guests.specs.Guests.{Host, Wants, Owed, sum-below}
 use Rattle.guests.proofs.Sums.{sum-below-more}
 use Rattle.slices.specs.Steps.{takes-turn}
-use Rattle.slices.specs.Rule.{beats, claim, earned, runner-below}
+use Rattle.bounds.specs.Rule.{beats, claim, earned, runner-below}
 use Rattle.slices.specs.declared.Candidate.{Candidate}
-use Rattle.slices.proofs.Earning.{earned-asleep, earned-awake}
-use Rattle.slices.proofs.Runner.{runner-below-more}
+use Rattle.bounds.proofs.Earning.{earned-asleep, earned-awake}
+use Rattle.bounds.proofs.Runner.{runner-below-more}
 
 abbrev pub candidate : Owed → ℕ → Candidate
 candidate q g = record { guest = g; claim = q g }

@@ -1,9 +1,5 @@
-pub mod Agree
 pub mod Beside
 pub mod Counted
 pub mod Deciding
-pub mod Earning
 pub mod Ranges
-pub mod Runner
 pub mod Settling
-pub mod Tables

@@ -13,8 +13,8 @@ use Rattle.guests.specs.Guests.{host-in, wants-in, owed-in, sum-below}
 use Rattle.guests.proofs.Amounts.{abs-add, abs-sub, as-read}
 use Rattle.guests.proofs.Sums.{sum-below-le}
 use Rattle.guests.proofs.Taken.{Taken, owed-small}
-use Rattle.slices.specs.Rule.{claim, earned, wanting}
-use Rattle.slices.proofs.Earning.{earned-awake}
+use Rattle.bounds.specs.Rule.{claim, earned, wanting}
+use Rattle.bounds.proofs.Earning.{earned-awake}
 
 -- an amount a that is x, read
 read : (a x : ℤ) → a ≡ x → natAbs x < 2 ^ 63 → toZ w64 (ofZ w64 a) ≡ x

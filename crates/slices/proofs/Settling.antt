@@ -11,7 +11,7 @@ use lib.ListN.{length, set}
 use Rattle.std.proofs.shelf.Lists.{length-set, getD-set-same, getD-set-other}
 use Rattle.std.specs.declared.option.Option.the-variants.{Some}
 use Rattle.guests.specs.Guests.{host-in, wants-in, owed-in}
-use Rattle.slices.specs.Rule.{claim, wanting, runner, is-runner, after-slice}
+use Rattle.bounds.specs.Rule.{claim, wanting, runner, is-runner, after-slice}
 
 module _ (ss ws : List ℕ) (os : List ℤ) where
   -- the guests below i are settled, the others not yet

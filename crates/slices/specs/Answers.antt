@@ -9,8 +9,8 @@ use Rattle.std.specs.declared.option.Option.the-variants.{Some, None}
 use Rattle.guests.specs.Guests.{host-in, wants-in, owed-in}
 use Rattle.guests.specs.Numbers.{number-of}
 use Rattle.guests.specs.declared.faults.Fault.{Fault}
-use Rattle.slices.specs.Laws.{Slice-laws}
-use Rattle.slices.specs.Rule.{runner, after-slice}
+use Rattle.bounds.specs.Laws.{Slice-laws}
+use Rattle.bounds.specs.Rule.{runner, after-slice}
 use Rattle.slices.specs.declared.Done.{Done}
 use Rattle.slices.specs.declared.Done.the-variants.{Works, Idle, Refused}
 

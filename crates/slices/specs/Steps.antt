@@ -6,7 +6,7 @@ use lib.Signed.{ltZ}
 use Rattle.std.specs.declared.option.Option.{Option}
 use Rattle.std.specs.declared.option.Option.the-variants.{Some, None}
 use Rattle.guests.specs.Guests.{Host, Wants, Owed}
-use Rattle.slices.specs.Rule.{runner, wanting}
+use Rattle.bounds.specs.Rule.{runner, wanting}
 use Rattle.slices.specs.declared.Candidate.{Candidate}
 use Rattle.slices.specs.declared.Turn.{Turn}
 

@@ -10,7 +10,7 @@ use Rattle.std.specs.declared.option.Option.the-variants.{Some}
 use Rattle.guests.specs.Guests.{host-in, wants-in, owed-in, sum-below}
 use Rattle.guests.proofs.Taken.{taken}
 use Rattle.slices.specs.Steps.{takes-turn}
-use Rattle.slices.specs.Rule.{claim, earned, runner-below}
+use Rattle.bounds.specs.Rule.{claim, earned, runner-below}
 use Rattle.slices.proofs.Beside.{beside-turn, beside-end}
 use Rattle.slices.proofs.Deciding.{so-far-asleep, so-far-takes, so-far-keeps, so-far-some, so-far-runner, candidate-is}
 use Rattle.slices.proofs.Ranges.{owed-most, claim-is, cost-most, cost-is}

@@ -1,6 +1,6 @@
 use Rattle.std.specs.Parts.{enumerate-count}
 use Rattle.guests.specs.Guests.{host-in, wants-in, owed-in}
-use Rattle.slices.specs.Rule.{claim}
+use Rattle.bounds.specs.Rule.{claim}
 use Rattle.slices.proofs.Beside.{Beside}
 use Rattle.slices.proofs.Deciding.{So-far}
 use Rattle.slices.proofs.decide.Given as given

@@ -7,7 +7,7 @@ use Rattle.guests.specs.Guests.{host-in, wants-in, owed-in}
 use Rattle.guests.proofs.Taken.{taken}
 use Rattle.slices.specs.Answers.{answer}
 use Rattle.slices.proofs.Counted.{nobody-wants, nobody-runs, somebody-runs}
-use Rattle.slices.proofs.Earning.{after-asleep, slice-laws}
+use Rattle.bounds.proofs.Earning.{after-asleep, slice-laws}
 use Rattle.slices.proofs.give.Needs as need
 
 pub returns-then-count-eq0 : need.returns-then-count-eq0

@@ -1,18 +1,18 @@
 -- What guests earn and pay in a slice, and the laws that follow.
 use mathlib.Core.Bool.{true, false, cond}
 use mathlib.Core.Path.{_≡_, refl, _∙_, ap, subst}
-use Prim.Native.Nat.{ℕ, _<_}
+use Prim.Native.Nat.{ℕ, _<_, _≤_}
 use native.Mathlib.Omega.{arith}
 use lib.Dec.{eqb}
 use Rattle.std.proofs.shelf.Signed.{ints}
-use Rattle.std.proofs.shelf.Tests.{cond-true, cond-false, ne-eqb, both-ways}
+use Rattle.std.proofs.shelf.Tests.{cond-true, cond-false, cond-both, ne-eqb, both-ways}
 use Rattle.std.specs.declared.option.Option.{Option}
 use Rattle.std.specs.declared.option.Option.the-variants.{Some, None}
 use Rattle.guests.specs.Guests.{Host, Wants, Owed, sum-below, sumℤ-below}
 use Rattle.guests.proofs.Sums.{sum-below-le, sum-below-one, sumℤ-below-moved, sumℤ-below-same}
-use Rattle.slices.specs.Laws.{Chosen, Slice-laws}
-use Rattle.slices.specs.Rule.{earned, wanting, claim, runner, is-runner, paid, after-slice}
-use Rattle.slices.proofs.Runner.{chosen-runner}
+use Rattle.bounds.specs.Laws.{Chosen, Slice-laws}
+use Rattle.bounds.specs.Rule.{earned, wanting, claim, runner, is-runner, paid, after-slice}
+use Rattle.bounds.proofs.Runner.{chosen-runner}
 
 module _ (h : Host) (w : Wants) where
   pub earned-asleep : (g : ℕ) → w g ≡ false → earned h w g ≡ 0
@@ -20,6 +20,9 @@ module _ (h : Host) (w : Wants) where
 
   pub earned-awake : (g : ℕ) → w g ≡ true → earned h w g ≡ h .share g
   earned-awake g e = cond-true (w g) (h .share g) 0 e
+
+  pub earned-most : (g : ℕ) → earned h w g ≤ h .share g
+  earned-most g = cond-both (w g) (h .share g) 0 (λ n. n ≤ h .share g) (λ _. omega arith) (λ _. omega arith)
 
   -- where nobody wants, nothing is earned
   wanting-none : (n : ℕ) → ((g : ℕ) → g < n → w g ≡ false) → sum-below n (earned h w) ≡ 0

@@ -6,7 +6,7 @@ use lib.Signed.{_≤ℤ_, _<ℤ_}
 use Rattle.std.specs.declared.option.Option.{Option}
 use Rattle.std.specs.declared.option.Option.the-variants.{Some, None}
 use Rattle.guests.specs.Guests.{Host, Wants, Owed, sumℤ-below}
-use Rattle.slices.specs.Rule.{claim}
+use Rattle.bounds.specs.Rule.{claim}
 
 -- The one who runs, of n guests with the claims q, wants to; nobody who wants has a greater claim, and no lower guest that wants as great a one. Nobody runs only where nobody wants.
 abbrev pub Chosen : Wants → Owed → ℕ → Option ℕ → Type 0

@@ -7,7 +7,7 @@ use lib.IntN.{pos}
 use lib.ListN.{getD, length}
 use Rattle.std.specs.declared.option.Option.the-variants.{Some}
 use Rattle.guests.specs.Guests.{Host, Wants, host-in}
-use Rattle.slices.specs.Runs.{nothing-owed, owed-at, runner-at}
+use Rattle.bounds.specs.Runs.{nothing-owed, owed-at, runner-at}
 
 abbrev pub three : Host
 three = host-in (1 ∷ 2 ∷ 3 ∷ [])

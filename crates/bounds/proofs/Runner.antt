@@ -12,8 +12,8 @@ use Rattle.std.proofs.shelf.Tests.{cases-eq, both-ways}
 use Rattle.std.specs.declared.option.Option.{Option}
 use Rattle.std.specs.declared.option.Option.the-variants.{Some, None}
 use Rattle.guests.specs.Guests.{Wants, Owed}
-use Rattle.slices.specs.Laws.{Chosen}
-use Rattle.slices.specs.Rule.{beats, runner-below}
+use Rattle.bounds.specs.Laws.{Chosen}
+use Rattle.bounds.specs.Rule.{beats, runner-below}
 
 pub runner-below-more : (w : Wants) (q : Owed) (n : ℕ) → runner-below w q (n + 1) ≡ cond (w n && beats q n (runner-below w q n)) (Some n) (runner-below w q n)
 runner-below-more w q n = ap (runner-below w q) (add-one n)

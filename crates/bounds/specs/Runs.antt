@@ -1,9 +1,10 @@
 -- Slices one after the other: in slice t the guests want ws t, and o is owed before the first. Assumes nothing: these are definitions.
-use Prim.Native.Nat.{ℕ, zero, suc}
+use mathlib.Core.Bool.{cond}
+use Prim.Native.Nat.{ℕ, zero, suc, _+_}
 use lib.IntN.{pos}
 use Rattle.std.specs.declared.option.Option.{Option}
 use Rattle.guests.specs.Guests.{Host, Wants, Owed}
-use Rattle.slices.specs.Rule.{runner, after-slice}
+use Rattle.bounds.specs.Rule.{runner, is-runner, after-slice}
 
 abbrev pub nothing-owed : Owed
 nothing-owed g = pos 0
@@ -16,3 +17,8 @@ owed-at h ws o (suc t) = after-slice h (ws t) (owed-at h ws o t)
 -- who runs in slice t
 abbrev pub runner-at : Host → (ℕ → Wants) → Owed → ℕ → Option ℕ
 runner-at h ws o t = runner h (ws t) (owed-at h ws o t)
+
+-- in how many of the k slices from slice a on guest g ran
+abbrev pub ran : Host → (ℕ → Wants) → Owed → ℕ → (a k : ℕ) → ℕ
+ran h ws o g a zero = 0
+ran h ws o g a (suc k) = ran h ws o g a k + cond (is-runner (runner-at h ws o (a + k)) g) 1 0

@@ -8,9 +8,9 @@ use lib.Signed.{ltZ}
 use Rattle.std.specs.declared.option.Option.{Option}
 use Rattle.std.specs.declared.option.Option.the-variants.{Some, None}
 use Rattle.guests.specs.Guests.{Host, Wants, Owed}
-use Rattle.slices.specs.Laws.{Chosen}
-use Rattle.slices.specs.Rule.{earned, wanting, claim, beats, runner-below, runner, is-runner, paid, after-slice}
-use Rattle.slices.proofs.Runner.{chosen-runner}
+use Rattle.bounds.specs.Laws.{Chosen}
+use Rattle.bounds.specs.Rule.{earned, wanting, claim, beats, runner-below, runner, is-runner, paid, after-slice}
+use Rattle.bounds.proofs.Runner.{chosen-runner}
 
 abbrev pub Agree : ℕ → Owed → Owed → Type 0
 Agree n o p = (g : ℕ) → g < n → o g ≡ p g

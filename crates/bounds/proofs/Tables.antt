@@ -9,9 +9,9 @@ use Rattle.std.proofs.shelf.Counted.{getD-map-counting}
 use Rattle.std.specs.Iters.{counting}
 use Rattle.std.specs.declared.option.Option.the-variants.{Some}
 use Rattle.guests.specs.Guests.{Host, Wants, Owed, owed-in}
-use Rattle.slices.specs.Rule.{runner, after-slice}
-use Rattle.slices.specs.Runs.{owed-at, runner-at}
-use Rattle.slices.proofs.Agree.{Agree, runner-agree, after-agree}
+use Rattle.bounds.specs.Rule.{runner, after-slice}
+use Rattle.bounds.specs.Runs.{owed-at, runner-at}
+use Rattle.bounds.proofs.Agree.{Agree, runner-agree, after-agree}
 
 -- who runs in a slice, and what is owed after it
 pub record Row : Type 0 where

@@ -1,0 +1,5 @@
+pub mod Examples
+pub mod Laws
+pub mod Promises
+pub mod Rule
+pub mod Runs
