@@ -25,7 +25,7 @@ module _ (h : Host) (w : Wants) where
   earned-most g = cond-both (w g) (h .share g) 0 (λ n. n ≤ h .share g) (λ _. omega arith) (λ _. omega arith)
 
   -- where nobody wants, nothing is earned
-  wanting-none : (n : ℕ) → ((g : ℕ) → g < n → w g ≡ false) → sum-below n (earned h w) ≡ 0
+  pub wanting-none : (n : ℕ) → ((g : ℕ) → g < n → w g ≡ false) → sum-below n (earned h w) ≡ 0
   wanting-none n none =
       omega (arith, sum-below-le n 0 (earned h w) (λ g b. omega (arith, earned-asleep g (none g b))))
 

@@ -1,7 +1,10 @@
+pub mod Absent
 pub mod Agree
 pub mod Balance
 pub mod Earning
+pub mod Kept
 pub mod Runner
+pub mod Spreading
 pub mod Tables
 pub mod Three
 pub mod Two

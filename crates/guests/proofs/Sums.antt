@@ -32,6 +32,11 @@ pub sum-below-le : (n m : ℕ) (f : ℕ → ℕ) → ((k : ℕ) → k < n → f 
 sum-below-le zero m f small = omega arith
 sum-below-le (suc n) m f small = omega (arith, sum-below-le n m f (λ k h. small k (omega arith)), small n (omega arith))
 
+pub sum-below-part : (n : ℕ) (f : ℕ → ℕ) (g : ℕ) → g < n → f g ≤ sum-below n f
+sum-below-part zero f g h = absurd (omega arith)
+sum-below-part (suc n) f g h =
+    elim (cases-eq g n) [ inl e ↦ omega (arith, ap f e) | inr e ↦ omega (arith, sum-below-part n f g (omega arith)) ]
+
 -- what one guest pays
 pub sum-below-none : (n r c : ℕ) → n ≤ r → sum-below n (λ g. cond (eqb g r) c 0) ≡ 0
 sum-below-none zero r c h = omega arith

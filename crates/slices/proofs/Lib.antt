@@ -2,4 +2,6 @@ pub mod Beside
 pub mod Counted
 pub mod Deciding
 pub mod Ranges
+pub mod Readiness
 pub mod Settling
+pub mod Stretching

@@ -1,4 +1,4 @@
--- The numbers of a slice, of lists that are taken, as code reads them: toZ (ofZ a) is a, and each is small.
+-- The numbers of a slice, of lists that are ready, as code reads them: toZ (ofZ a) is a, and each is small.
 use mathlib.Core.Bool.{Bool, true, cond}
 use mathlib.Core.List.{List}
 use mathlib.Core.Path.{_≡_, sym, _∙_, ap}
@@ -12,7 +12,7 @@ use Rattle.std.proofs.shelf.Tests.{cond-both}
 use Rattle.guests.specs.Guests.{host-in, wants-in, owed-in, sum-below}
 use Rattle.guests.proofs.Amounts.{abs-add, abs-sub, as-read}
 use Rattle.guests.proofs.Sums.{sum-below-le}
-use Rattle.guests.proofs.Taken.{Taken, owed-small}
+use Rattle.slices.specs.Steps.{Ready}
 use Rattle.bounds.specs.Rule.{claim, earned, wanting}
 use Rattle.bounds.proofs.Earning.{earned-awake}
 
@@ -20,7 +20,7 @@ use Rattle.bounds.proofs.Earning.{earned-awake}
 read : (a x : ℤ) → a ≡ x → natAbs x < 2 ^ 63 → toZ w64 (ofZ w64 a) ≡ x
 read a x e small = ap (λ z. toZ w64 (ofZ w64 z)) e ∙ as-read x small
 
-module _ (ss ws : List ℕ) (os : List ℤ) (t : Taken ss ws os) where
+module _ (ss ws : List ℕ) (os : List ℤ) (t : Ready ss ws os) where
   earned-most : (g : ℕ) → g < length ss → earned (host-in ss) (wants-in ws) g ≤ 1000
   earned-most g h = cond-both (wants-in ws g) (getD ss g 0) 0 (λ n. n ≤ 1000) (λ _. t .share-most g h) (λ _. omega arith)
 
@@ -31,10 +31,10 @@ module _ (ss ws : List ℕ) (os : List ℤ) (t : Taken ss ws os) where
   -- what guest g is owed
   module _ (g : ℕ) (h : g < length ss) (a : ℤ) (e : a ≡ owed-in os g) where
     read-owed : toZ w64 (ofZ w64 a) ≡ owed-in os g
-    read-owed = read a (owed-in os g) e (omega (arith, owed-small ss ws os t g h))
+    read-owed = read a (owed-in os g) e (omega (arith, t .owed-most g h))
 
-    pub owed-most : natAbs (toZ w64 (ofZ w64 a)) ≤ 4096000
-    owed-most = rw read-owed (owed-small ss ws os t g h)
+    pub owed-most : natAbs (toZ w64 (ofZ w64 a)) ≤ 8192000
+    owed-most = rw read-owed (t .owed-most g h)
 
     pub claim-is : (x : ℕ) → x ≡ getD ss g 0 → wants-in ws g ≡ true → toZ w64 (ofZ w64 a) +ℤ pos x ≡ claim (host-in ss) (wants-in ws) (owed-in os) g
     claim-is x s awake =
@@ -74,4 +74,4 @@ module _ (ss ws : List ℕ) (os : List ℤ) (t : Taken ss ws os) where
         (is ∙ ap (λ z. (z +ℤ toZ w64 (ofZ w64 e)) -ℤ toZ w64 (ofZ w64 p)) (read-owed g h a ea)
         ∙ ap (λ z. (owed-in os g +ℤ z) -ℤ toZ w64 (ofZ w64 p)) read-earned
         ∙ ap (λ z. claim (host-in ss) (wants-in ws) (owed-in os) g -ℤ z) read-paid)
-        (omega (arith, abs-sub (claim (host-in ss) (wants-in ws) (owed-in os) g) (cond runs c (pos 0)), abs-add (owed-in os g) (pos (earned (host-in ss) (wants-in ws) g)), owed-small ss ws os t g h, earned-most g h, cost-small))
+        (omega (arith, abs-sub (claim (host-in ss) (wants-in ws) (owed-in os) g) (cond runs c (pos 0)), abs-add (owed-in os g) (pos (earned (host-in ss) (wants-in ws) g)), t .owed-most g h, earned-most g h, cost-small))

@@ -5,20 +5,25 @@
 // what it was owed before. What is earned is what is paid, so what is owed comes to nothing, all together, as before.
 // Lists past a limit are refused by a number, and nothing of them is changed.
 ghost use Prim.Native.Nat.{_≤_};
-ghost use Rattle.guests.specs.Faults.{fault};
+ghost use Rattle.guests.specs.Faults.{Checks, fault};
 ghost use Rattle.guests.specs.Guests.{host-in, wants-in, owed-in, wants-bits};
-ghost use Rattle.slices.specs.Answers.{Settles, Slice-says, Slice-keeps, answer};
+ghost use Rattle.slices.specs.Answers.{Settles, Slice-keeps, Slice-says, answer};
 ghost use Rattle.bounds.specs.Examples.{Turns-of-three, turns-of-three};
+ghost use Rattle.bounds.specs.Laws.{Slice-laws};
 ghost use Rattle.bounds.specs.Rule.{runner};
-ghost use Rattle.slices.specs.Steps.{Decides, takes-turn};
+ghost use Rattle.slices.specs.Steps.{Decides, Ready, takes-turn};
 ghost use Rattle.std.specs.Options.{isSome};
-ghost use Rattle.std.specs.declared.option.Option.the-variants.{None};
 ghost use lib.Dec.{eqb};
 ghost use lib.IntN.{pos, natAbs, _+ℤ_, _-ℤ_};
 ghost use mathlib.Core.Bool.{true, cond};
 ghost use mathlib.Core.Path.{_≡_};
+
+mod stretches;
+
+use guests::Fault;
 use guests::Runnable;
 use guests::check;
+pub use stretches::stretch;
 
 // What a slice answers.
 #[derive(Clone, Copy, PartialEq, Eq, Debug)]
@@ -47,7 +52,7 @@ struct Turn {
 
 impl Candidate {
     fn new(guest: usize, share: u32, amount: i64) -> Candidate
-        requires { ⌜ natAbs amount ≤ 4096000 ⌝ ∗ ⌜ share ≤ 1000 ⌝ }
+        requires { ⌜ natAbs amount ≤ 8192000 ⌝ ∗ ⌜ share ≤ 1000 ⌝ }
         ensures guest { λ r. ⌜ r .guest ≡ guest ⌝ }
         ensures claim { λ r. ⌜ r .claim ≡ amount +ℤ pos share ⌝ }
     {
@@ -77,7 +82,7 @@ fn with_share(cost: i64, share: u32) -> i64
 }
 
 fn decide(shares: &[u32], wants: &[u8], owed: &[i64]) -> Turn
-    requires taken { ⌜ fault (now shares) (now wants) (now owed) ≡ None ⌝ }
+    requires ready { ⌜ Ready (now shares) (now wants) (now owed) ⌝ }
     requires some { ⌜ isSome (runner (host-in (now shares)) (wants-in (now wants)) (owed-in (now owed))) ≡ true ⌝ }
     ensures { λ r. ⌜ Decides (host-in (now (shares .entry))) (wants-in (now (wants .entry))) (owed-in (now (owed .entry))) r ⌝ }
 {
@@ -120,14 +125,14 @@ impl Turn {
 
 // What a guest is owed after a slice, from what it was owed before, earned and paid.
 fn settled(amount: i64, earned: i64, paid: i64) -> i64
-    requires { ⌜ natAbs amount ≤ 4096000 ⌝ ∗ ⌜ natAbs earned ≤ 1000 ⌝ ∗ ⌜ natAbs paid ≤ 64000 ⌝ }
+    requires { ⌜ natAbs amount ≤ 8192000 ⌝ ∗ ⌜ natAbs earned ≤ 1000 ⌝ ∗ ⌜ natAbs paid ≤ 64000 ⌝ }
     ensures { λ r. ⌜ r ≡ (amount +ℤ earned) -ℤ paid ⌝ }
 {
     amount + earned - paid
 }
 
 fn settle(turn: Turn, shares: &[u32], wants: &[u8], owed: &mut [i64])
-    requires taken { ⌜ fault (now shares) (now wants) (now owed) ≡ None ⌝ }
+    requires ready { ⌜ Ready (now shares) (now wants) (now owed) ⌝ }
     requires turn { ⌜ Decides (host-in (now shares)) (wants-in (now wants)) (owed-in (now owed)) turn ⌝ }
     ensures { λ _. ⌜ Settles (now (shares .entry)) (now (wants .entry)) (now (owed .entry)) (now (owed .exit)) ⌝ }
 {
@@ -140,28 +145,46 @@ fn settle(turn: Turn, shares: &[u32], wants: &[u8], owed: &mut [i64])
     }
 }
 
-// A slice of lists that are taken.
-fn give(runnable: Runnable, shares: &[u32], wants: &[u8], owed: &mut [i64]) -> Done
-    requires taken { ⌜ fault (now shares) (now wants) (now owed) ≡ None ⌝ }
+// A slice of lists that are ready for it: who runs, if anybody wants to.
+fn give(runnable: Runnable, shares: &[u32], wants: &[u8], owed: &mut [i64]) -> Option<u64>
+    requires ready { ⌜ Ready (now shares) (now wants) (now owed) ⌝ }
     requires runnable { ⌜ runnable .bits ≡ wants-bits (now wants) ⌝ }
-    ensures answers { λ r. ⌜ r ≡ answer (runner (host-in (now (shares .entry))) (wants-in (now (wants .entry))) (owed-in (now (owed .entry)))) ⌝ }
+    ensures runs { λ r. ⌜ r ≡ runner (host-in (now (shares .entry))) (wants-in (now (wants .entry))) (owed-in (now (owed .entry))) ⌝ }
     ensures settles { λ _. ⌜ Settles (now (shares .entry)) (now (wants .entry)) (now (owed .entry)) (now (owed .exit)) ⌝ }
-    ensures keeps { λ r. ⌜ Slice-keeps (now (shares .entry)) (now (wants .entry)) (now (owed .entry)) (now (owed .exit)) r ⌝ }
+    ensures keeps { λ r. ⌜ Slice-laws (host-in (now (shares .entry))) (wants-in (now (wants .entry))) (owed-in (now (owed .entry))) (owed-in (now (owed .exit))) r ⌝ }
 {
     if runnable.count() == 0 {
-        return Done::Idle;
+        return None;
     }
     let turn = decide(shares, wants, owed);
     settle(turn, shares, wants, owed);
-    Done::Works(turn.runner as u64)
+    Some(turn.runner as u64)
+}
+
+impl Done {
+    fn by(runner: Option<u64>) -> Done
+        ensures { λ r. ⌜ r ≡ answer runner ⌝ }
+    {
+        match runner {
+            Some(guest) => Done::Works(guest),
+            None => Done::Idle,
+        }
+    }
+}
+
+// The checks, and what a slice relies on once they have passed.
+fn checked(shares: &[u32], wants: &[u8], owed: &[i64]) -> Result<Runnable, Fault>
+    ensures { λ r. ⌜ Checks (fault (now (shares .entry)) (now (wants .entry)) (now (owed .entry))) (λ w. (w .bits ≡ wants-bits (now (wants .entry))) × Ready (now (shares .entry)) (now (wants .entry)) (now (owed .entry))) r ⌝ }
+{
+    check(shares, wants, owed)
 }
 
 pub fn slice(shares: &[u32], wants: &[u8], owed: &mut [i64]) -> Done
     ensures says { λ r. ⌜ Slice-says (fault (now (shares .entry)) (now (wants .entry)) (now (owed .entry))) (now (shares .entry)) (now (wants .entry)) (now (owed .entry)) (now (owed .exit)) r ⌝ }
     ensures keeps { λ r. ⌜ Slice-keeps (now (shares .entry)) (now (wants .entry)) (now (owed .entry)) (now (owed .exit)) r ⌝ }
 {
-    match check(shares, wants, owed) {
-        Ok(runnable) => give(runnable, shares, wants, owed),
+    match checked(shares, wants, owed) {
+        Ok(runnable) => Done::by(give(runnable, shares, wants, owed)),
         Err(fault) => Done::Refused(fault.refusal().number),
     }
 }

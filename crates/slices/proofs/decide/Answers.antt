@@ -8,7 +8,6 @@ use Rattle.std.specs.Options.{isSome}
 use Rattle.std.specs.Parts.{enumerate-count}
 use Rattle.std.specs.declared.option.Option.the-variants.{Some}
 use Rattle.guests.specs.Guests.{host-in, wants-in, owed-in, sum-below}
-use Rattle.guests.proofs.Taken.{taken}
 use Rattle.slices.specs.Steps.{takes-turn}
 use Rattle.bounds.specs.Rule.{claim, earned, runner-below}
 use Rattle.slices.proofs.Beside.{beside-turn, beside-end}
@@ -22,7 +21,7 @@ new-candidate-requires c κs =
     let ss = c .args .shares .now in
     let ws = c .args .wants .now in
     let os = c .args .owed .now in
-    let t = taken ss ws os (c .pre .taken) in
+    let t = c .pre .ready in
     let at = beside-turn ss ws os (c .loop-guest .guest-iterator) (c .next .last .self) (c .loop-guest .inv .2) (c .in-Some .ensures tt .steps) in
     (owed-most ss ws os t (enumerate-count (c .loop-guest .guest-iterator)) (at .within) _ (at .owed), rw (at .share) (t .share-most _ (at .within)))
 
@@ -31,7 +30,7 @@ with-share-cost-requires c κs =
     let ss = c .args .shares .now in
     let ws = c .args .wants .now in
     let os = c .args .owed .now in
-    let t = taken ss ws os (c .pre .taken) in
+    let t = c .pre .ready in
     let at = beside-turn ss ws os (c .loop-guest .guest-iterator) (c .next .last .self) (c .loop-guest .inv .2) (c .in-Some .ensures tt .steps) in
     (cost-most ss ws os t (enumerate-count (c .loop-guest .guest-iterator)) (at .within) _ (c .loop-guest .inv .3 .cost-is), rw (at .share) (t .share-most _ (at .within)))
 
@@ -43,7 +42,7 @@ loop-guest-again-then-want-eq1 c =
     let q = claim (host-in ss) (wants-in ws) (owed-in os) in
     let i = enumerate-count (c .loop-guest .guest-iterator) in
     let at = beside-turn ss ws os (c .loop-guest .guest-iterator) (c .next .last .self) (c .loop-guest .inv .2) (c .in-Some .ensures tt .steps) in
-    let t = taken ss ws os (c .pre .taken) in
+    let t = c .pre .ready in
     let awake : wants-in ws i ≡ true = eq-eqb _ 1 (sym (at .want) ∙ c .if-want-eq1 .taken) in
     let claims = c .new-candidate .ensures .claim ∙ claim-is ss ws os t i (at .within) _ (at .owed) _ (at .share) awake in
     let pays = cost-is ss ws os t i (at .within) _ (c .loop-guest .inv .3 .cost-is) _ _ (at .share) (c .with-share-cost .ensures) in (
@@ -79,7 +78,7 @@ unwrap-requires c κs =
     let ws = c .args .wants .now in
     let os = c .args .owed .now in
     let q = claim (host-in ss) (wants-in ws) (owed-in os) in
-    let t = taken ss ws os (c .pre .taken) in
+    let t = c .pre .ready in
     let end = beside-end ss ws os (c .loop-guest .guest-iterator) (c .next .last .self) (t .wants-long) (t .owed-long) (c .loop-guest .inv .2) (c .in-None .ensures tt .steps .0) in
     so-far-some (host-in ss) (wants-in ws) q (enumerate-count (c .loop-guest .guest-iterator)) _ _ (c .loop-guest .inv .3) (ap (λ (n : ℕ). isSome (runner-below (wants-in ws) q n)) end ∙ c .pre .some)
 
@@ -89,7 +88,7 @@ returns c =
     let ws = c .args .wants .now in
     let os = c .args .owed .now in
     let q = claim (host-in ss) (wants-in ws) (owed-in os) in
-    let t = taken ss ws os (c .pre .taken) in
+    let t = c .pre .ready in
     let end = beside-end ss ws os (c .loop-guest .guest-iterator) (c .next .last .self) (t .wants-long) (t .owed-long) (c .loop-guest .inv .2) (c .in-None .ensures tt .steps .0) in (
       ap (λ (n : ℕ). runner-below (wants-in ws) q n) (sym end) ∙ so-far-runner (host-in ss) (wants-in ws) q (enumerate-count (c .loop-guest .guest-iterator)) (c .unwrap .result) _ _ (c .loop-guest .inv .3) (c .unwrap .ensures),
       c .loop-guest .inv .3 .cost-is ∙ ap (λ (n : ℕ). pos (sum-below n (earned (host-in ss) (wants-in ws)))) end,

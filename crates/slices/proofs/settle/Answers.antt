@@ -3,7 +3,6 @@ use Prim.Native.Nat.{_<_}
 use native.Mathlib.Omega.{arith}
 use lib.Dec.{eqb}
 use lib.ListN.{length}
-use Rattle.guests.proofs.Taken.{taken}
 use Rattle.slices.proofs.Ranges.{owed-most, earned-read-most, paid-read-most, settled-is}
 use Rattle.slices.proofs.Settling.{settled-more, after-is}
 use Rattle.slices.proofs.settle.Needs as need
@@ -14,7 +13,7 @@ settled-requires c κs =
     let ws = c .args .wants .now in
     let os = c .args .owed .now in
     let i = c .loop-guest .guest in
-    let t = taken ss ws os (c .pre .taken) in
+    let t = c .pre .ready in
     let h : i < length ss = omega (arith, t .owed-long) in
     let here = c .loop-guest .inv .above i (omega arith) in (
       owed-most ss ws os t i h _ here,
@@ -30,7 +29,7 @@ loop-guest-again c =
     let ws = c .args .wants .now in
     let os = c .args .owed .now in
     let i = c .loop-guest .guest in
-    let t = taken ss ws os (c .pre .taken) in
+    let t = c .pre .ready in
     let h : i < length ss = omega (arith, t .owed-long) in
     let here = c .loop-guest .inv .above i (omega arith) in
     settled-more ss ws os i (c .loop-guest .owed) _ (c .loop-guest .inv) (c .loop-guest-test .taken)

@@ -1,0 +1,3 @@
+pub mod Spread
+pub mod Step
+pub mod Sums

@@ -1,0 +1,1 @@
+// Lemmas only: proofs/ has them.
