@@ -69,7 +69,7 @@ module _ (n : ℕ) (o : Owed) (nothing : sumℤ-below n o ≡ pos 0) where
 
   spread-from-most : (l c : ℕ) → 4 * l ≤ n * c → ((g : ℕ) → g < n → natAbs (o g) ≤ l) → Spread n c (above o) (below o)
   spread-from-most l c small most =
-      spread-from-limit n c (above o) (below o) l small (λ g b. omega (arith, ints, most g b)) (λ g b. omega (arith, ints, most g b)) even
+      spread-from-limit n l c (above o) (below o) small (λ g b. omega (arith, ints, most g b)) (λ g b. omega (arith, ints, most g b)) even
 
 module _ (h : Host) (ws : ℕ → Wants) (o : Owed) where
   pub spread-at : (c : ℕ) → Pairs (h .guests) c (h .share) → Spread (h .guests) c (above o) (below o) → (t : ℕ) → Spread (h .guests) c (above (owed-at h ws o t)) (below (owed-at h ws o t))

@@ -62,3 +62,57 @@ pub fn stretch(
     run(runnable, shares, wants, owed, runners);
     Ok(())
 }
+
+#[cfg(test)]
+mod tests {
+    use super::stretch;
+    use guests::Fault;
+    use guests::FaultDebug;
+    use guests::FaultPartialEq;
+    use std::test::*;
+
+    #[test]
+    fn no_slices_change_nothing() -> Result<(), Fail> {
+        let mut owed = [1, -1];
+        stretch(&[1, 1], &[1, 1], &mut owed, &mut [])?;
+        check_eq(owed, [1, -1])
+    }
+
+    #[test]
+    fn one_guest_runs_whenever_it_wants() -> Result<(), Fail> {
+        let mut owed = [0];
+        let mut runners = [None; 2];
+        stretch(&[7], &[1], &mut owed, &mut runners)?;
+        check_eq(runners, [Some(0); 2])?;
+        stretch(&[7], &[0], &mut owed, &mut runners)?;
+        check_eq(runners, [None; 2])?;
+        check_eq(owed, [0])
+    }
+
+    #[test]
+    fn as_many_guests_as_there_can_be_run_in_turn() -> Result<(), Fail> {
+        let mut owed = [0; 64];
+        let mut runners = [None; 64];
+        stretch(&[1000; 64], &[1; 64], &mut owed, &mut runners)?;
+        for (slice, runner) in runners.iter().enumerate() {
+            check_eq(*runner, Some(slice as u64))?;
+        }
+        check_eq(owed, [0; 64])
+    }
+
+    #[test]
+    fn what_is_refused_changes_nothing() -> Result<(), Fail> {
+        let mut owed = [5, -5];
+        let mut runners = [Some(9)];
+        check_eq(
+            stretch(&[1, 2], &[1, 2], &mut owed, &mut runners),
+            Err(Fault::WantAboveOne(1)),
+        )?;
+        check_eq(
+            stretch(&[1, 1], &[1, 1], &mut owed, &mut runners),
+            Err(Fault::OwedOutOfRange(0)),
+        )?;
+        check_eq(owed, [5, -5])?;
+        check_eq(runners, [Some(9)])
+    }
+}

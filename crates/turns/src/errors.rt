@@ -16,8 +16,6 @@ pub enum Error {
     Lists(Fault),
     // The place of the first line that can't be read, or of the one that is missing.
     Line(usize),
-    // A slice that was refused though all checks had passed, by the number of its refusal.
-    Slice(u64),
     TooManyFiles,
     Memory,
     Input(io::Error),
@@ -43,7 +41,6 @@ impl Error {
         match self {
             Error::Lists(fault) => fault_sentence(*fault),
             Error::Line(_) => "this line, counted from 0, can't be read or is missing",
-            Error::Slice(_) => "a slice was refused after all checks had passed",
             Error::TooManyFiles => "there is more than one file to read; turns --help says more",
             Error::Memory => "there is not enough memory",
             Error::Input(_) => "the text can't be read",
@@ -77,7 +74,6 @@ pub impl fmt::Display for Error as ErrorDisplay {
         match self {
             Error::Input(e) => write!(f, "turns: {sentence}: {e}"),
             Error::Output(e) => write!(f, "turns: {sentence}: {e}"),
-            Error::Slice(number) => write!(f, "turns: {sentence}: refused {number}"),
             _ => write!(f, "turns: {sentence}"),
         }
     }

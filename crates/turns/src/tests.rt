@@ -85,3 +85,23 @@ fn what_stands_is_not_refused(rt: LibcRuntime) -> Result<(), Fail> {
         None,
     )
 }
+
+// Each amount stays within its limit of 16 for one slice, and not for two.
+#[test]
+fn what_passes_its_limit_on_the_way_is_refused(rt: LibcRuntime) -> Result<(), Fail> {
+    let heap = rt.alloc();
+    let text = b"shares 1 1 1 1\nowed 15 15 -15 -15\nwants 1 1 0 0\nslices 2";
+    let mut out = Vec::new(heap);
+    let refusal = match Text::read(heap, text)?.checked(heap)?.print(&mut out) {
+        Ok(()) => None,
+        Err(error) => error.refusal(),
+    };
+    check_eq(
+        refusal,
+        Some(Refusal {
+            number: 3,
+            place: 1,
+        }),
+    )?;
+    check(out.is_empty())
+}

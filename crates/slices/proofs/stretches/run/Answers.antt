@@ -1,8 +1,6 @@
-use borrow.Author.Needs.{needs}
 use native.Mathlib.Omega.{arith}
-use Rattle.slices.specs.Stretches.{Gives}
 use Rattle.slices.proofs.Readiness.{ready-at}
-use Rattle.slices.proofs.Stretching.{given-more, stretch-laws}
+use Rattle.slices.proofs.Stretching.{given-more}
 use Rattle.slices.proofs.stretches.run.Needs as need
 
 pub give-runner-requires : need.give-runner-requires
@@ -15,11 +13,3 @@ pub loop-slice-again : need.loop-slice-again
 loop-slice-again c =
     given-more (c .args .shares .now) (c .args .wants .now) (c .args .owed .now) (c .loop-slice .slice) (c .loop-slice .owed) (c .give-runner .last .owed) (c .loop-slice .runners) (c .put .last .runners) (c .give-runner .result)
     (c .loop-slice .inv) (omega arith) (c .give-runner .ensures .runs) (c .give-runner .ensures .settles) (c .put .ensures)
-
-pub returns : need.returns
-returns c =
-    let gives : Gives (c .args .shares .now) (c .args .wants .now) (c .args .owed .now) (c .loop-slice .owed) (c .loop-slice .runners) = search needs in
-    record {
-      gives = gives;
-      keeps = stretch-laws (c .args .shares .now) (c .args .wants .now) (c .args .owed .now) (c .loop-slice .owed) (c .loop-slice .runners) gives;
-    }
