@@ -1,13 +1,11 @@
 -- Over a run: all that is owed comes to what it came to before, and who sleeps is owed what it was.
-use mathlib.Core.Bool.{false}
 use mathlib.Core.Path.{_≡_, refl, _∙_, ap}
 use Prim.Native.Nat.{ℕ, zero, suc, _+_}
 use native.Mathlib.Nat.{add-suc, add-zero}
 use native.Mathlib.Omega.{arith}
-use Rattle.std.proofs.shelf.Signed.{ints}
 use Rattle.guests.specs.Guests.{Host, Wants, Owed, sumℤ-below}
 use Rattle.guests.proofs.Sums.{sumℤ-below-zero}
-use Rattle.bounds.specs.Promises.{Comes-to-nothing, Sleeps-free, Asleep}
+use Rattle.bounds.specs.Promises.{Comes-to-nothing, Sleeps-free}
 use Rattle.bounds.specs.Runs.{nothing-owed, owed-at}
 use Rattle.bounds.proofs.Earning.{after-asleep, after-balanced}
 

@@ -1,11 +1,10 @@
 -- A slice is a step in which the runner pays, so whatever spread what is owed has it keeps over any run; and what no run can pass.
-use mathlib.Core.Bool.{true, false, cond}
-use mathlib.Core.Path.{_≡_, refl, sym, _∙_, ap}
+use mathlib.Core.Bool.{true, false}
+use mathlib.Core.Path.{_≡_, refl, _∙_, ap}
 use Prim.Native.Nat.{ℕ, zero, suc, _+_, _*_, _-_, _<_, _≤_}
 use borrow.Author.Differences.{up, down}
 use native.Mathlib.Omega.{arith}
-use lib.Dec.{eqb}
-use lib.IntN.{ℤ, pos, natAbs}
+use lib.IntN.{pos, natAbs}
 use Rattle.std.proofs.shelf.Bits.{mul-le}
 use Rattle.std.proofs.shelf.Signed.{ints}
 use Rattle.std.proofs.shelf.Tests.{eqb-true, both-ways}
@@ -14,7 +13,7 @@ use Rattle.std.specs.declared.option.Option.the-variants.{Some, None}
 use Rattle.guests.specs.Guests.{Host, Wants, Owed, sum-below, sumℤ-below, total}
 use Rattle.guests.proofs.Sums.{sum-below-part}
 use Rattle.bounds.specs.Laws.{Chosen}
-use Rattle.bounds.specs.Rule.{earned, wanting, claim, runner, is-runner, paid, after-slice}
+use Rattle.bounds.specs.Rule.{earned, wanting, claim, runner, is-runner, after-slice}
 use Rattle.bounds.specs.Runs.{owed-at}
 use Rattle.bounds.proofs.Balance.{owed-sum-same}
 use Rattle.bounds.proofs.Earning.{chosen-is, earned-asleep, earned-most, wanting-none}

@@ -1,7 +1,7 @@
 -- Two guests: what one is owed the other owes, and it is at most half of their shares together.
 use mathlib.Core.Bool.{cond}
 use mathlib.Core.Logic.{_⊎_, inl, inr}
-use mathlib.Core.Path.{_≡_, refl, sym, _∙_, ap}
+use mathlib.Core.Path.{_≡_, refl, ap}
 use Prim.Native.Nat.{ℕ, zero, suc, _+_, _*_, _<_, _≤_}
 use native.Mathlib.Omega.{arith}
 use lib.IntN.{pos, natAbs, _+ℤ_}
@@ -10,7 +10,7 @@ use Rattle.std.proofs.shelf.Signed.{ints}
 use Rattle.std.proofs.shelf.Tests.{cases-bool}
 use Rattle.std.specs.declared.option.Option.{Option}
 use Rattle.std.specs.declared.option.Option.the-variants.{Some, None}
-use Rattle.guests.specs.Guests.{Host, Wants, Owed, sum-below, sumℤ-below, total}
+use Rattle.guests.specs.Guests.{Host, Wants, Owed, sum-below, sumℤ-below}
 use Rattle.bounds.specs.Laws.{Chosen}
 use Rattle.bounds.specs.Promises.{Bounded-for-two}
 use Rattle.bounds.specs.Rule.{earned, wanting, claim, runner, is-runner, after-slice}

@@ -26,7 +26,7 @@ abbrev pub greatest-below : ℕ → (ℕ → ℕ) → ℕ
 greatest-below zero f = 0
 greatest-below (suc n) f = max (greatest-below n f) (f n)
 
--- the most that two different ones of f 0 .. f (n - 1) come to: the last is one of the two, or it is not
+-- the most that two different ones of f 0 .. f (n - 1) come to: the last is one of the two, or it is not; of one alone, that one
 abbrev pub two-greatest-below : ℕ → (ℕ → ℕ) → ℕ
 two-greatest-below zero f = 0
 two-greatest-below (suc n) f = max (two-greatest-below n f) (greatest-below n f + f n)

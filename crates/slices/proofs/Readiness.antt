@@ -1,7 +1,7 @@
 -- Lists that are not refused are ready for a slice, and so is whatever any number of slices make of them.
 use mathlib.Core.List.{List}
 use mathlib.Core.Path.{_≡_, refl, _∙_, ap}
-use Prim.Native.Nat.{ℕ, _*_, _<_, _≤_}
+use Prim.Native.Nat.{ℕ, _<_}
 use native.Mathlib.Omega.{arith}
 use lib.IntN.{ℤ, pos, natAbs}
 use lib.ListN.{length}
@@ -14,7 +14,7 @@ use Rattle.guests.specs.Faults.{Checks, fault}
 use Rattle.guests.specs.Guests.{host-in, wants-in, owed-in, total, wants-bits}
 use Rattle.guests.specs.declared.faults.Fault.{Fault}
 use Rattle.guests.specs.declared.wanting.Runnable.{Runnable}
-use Rattle.guests.proofs.Taken.{Taken, taken, total-most}
+use Rattle.guests.proofs.Taken.{taken, total-most}
 use Rattle.bounds.specs.Runs.{owed-at}
 use Rattle.bounds.proofs.Spreading.{owed-at-most}
 use Rattle.slices.specs.Steps.{Ready}

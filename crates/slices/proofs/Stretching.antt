@@ -1,6 +1,6 @@
 -- A stretch, slice by slice: what is owed before slice t, who has run in those before it, and the laws so far.
 use mathlib.Core.List.{List}
-use mathlib.Core.Path.{_≡_, refl, sym, _∙_, ap}
+use mathlib.Core.Path.{_≡_, sym, _∙_, ap}
 use Prim.Native.Nat.{ℕ, _+_, _<_}
 use borrow.Author.Count.{below-more}
 use native.Mathlib.Nat.{zero-add}

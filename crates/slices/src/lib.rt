@@ -1,16 +1,16 @@
-// One slice of a host's time.
+// Slices of a host's time: one, or many one after the other.
 //
 // Each guest that wants to run is owed its share more. Of those the one that is then owed most runs, of equals the
 // lowest, and pays the shares of all who want. A guest that does not want neither earns nor pays: it is owed afterwards
 // what it was owed before. What is earned is what is paid, so what is owed comes to nothing, all together, as before.
 // Lists past a limit are refused by a number, and nothing of them is changed.
 ghost use Prim.Native.Nat.{_≤_};
-ghost use Rattle.guests.specs.Faults.{Checks, fault};
-ghost use Rattle.guests.specs.Guests.{host-in, wants-in, owed-in, wants-bits};
-ghost use Rattle.slices.specs.Answers.{Settles, Slice-keeps, Slice-says, answer};
 ghost use Rattle.bounds.specs.Examples.{Turns-of-three, turns-of-three};
 ghost use Rattle.bounds.specs.Laws.{Slice-laws};
 ghost use Rattle.bounds.specs.Rule.{runner};
+ghost use Rattle.guests.specs.Faults.{Checks, fault};
+ghost use Rattle.guests.specs.Guests.{host-in, wants-in, owed-in, wants-bits};
+ghost use Rattle.slices.specs.Answers.{Settles, Slice-keeps, Slice-says, answer};
 ghost use Rattle.slices.specs.Steps.{Decides, Ready, takes-turn};
 ghost use Rattle.std.specs.Options.{isSome};
 ghost use lib.Dec.{eqb};
