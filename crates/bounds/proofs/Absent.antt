@@ -8,11 +8,11 @@ use Rattle.std.proofs.shelf.Ways.{tells}
 use Rattle.std.specs.Options.{mapped}
 use Rattle.std.specs.declared.option.Option.{Option}
 use Rattle.std.specs.declared.option.Option.the-variants.{Some, None}
-use Rattle.guests.specs.Guests.{Host, Wants, Owed, sum-below}
+use Rattle.guests.specs.Guests.{Agree, Host, Wants, Owed, sum-below}
 use Rattle.bounds.specs.Promises.{Asleep, past, without, Unnoticed, Unnoticed-asleep}
 use Rattle.bounds.specs.Rule.{earned, wanting, claim, beats, runner-below, runner, is-runner, after-slice}
 use Rattle.bounds.specs.Runs.{nothing-owed, owed-at}
-use Rattle.bounds.proofs.Agree.{Agree, runner-agree, after-agree}
+use Rattle.bounds.proofs.Agree.{runner-agree, after-agree}
 use Rattle.bounds.proofs.Earning.{earned-asleep}
 
 -- f by the numbers of the host without g

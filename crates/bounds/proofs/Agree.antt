@@ -1,19 +1,16 @@
 -- A slice looks at the guests that there are, and at nothing past them: where what is owed agrees there, so do the runner and what is owed after it.
 use mathlib.Core.Bool.{cond, _&&_}
 use mathlib.Core.Path.{_≡_, refl, _∙_, ap}
-use Prim.Native.Nat.{ℕ, zero, suc, _<_}
+use Prim.Native.Nat.{ℕ, zero, suc}
 use native.Mathlib.Omega.{arith}
 use lib.IntN.{pos, _+ℤ_, _-ℤ_}
 use lib.Signed.{ltZ}
 use Rattle.std.specs.declared.option.Option.{Option}
 use Rattle.std.specs.declared.option.Option.the-variants.{Some, None}
-use Rattle.guests.specs.Guests.{Host, Wants, Owed}
+use Rattle.guests.specs.Guests.{Agree, Host, Wants, Owed}
 use Rattle.bounds.specs.Laws.{Chosen}
 use Rattle.bounds.specs.Rule.{earned, wanting, claim, beats, runner-below, runner, is-runner, paid, after-slice}
 use Rattle.bounds.proofs.Runner.{chosen-runner}
-
-abbrev pub Agree : ℕ → Owed → Owed → Type 0
-Agree n o p = (g : ℕ) → g < n → o g ≡ p g
 
 module _ (w : Wants) (q r : Owed) where
   beats-agree : (n : ℕ) → Agree (suc n) q r → (best : Option ℕ) → Chosen w q n best → beats q n best ≡ beats r n best

@@ -8,11 +8,12 @@ use Rattle.std.proofs.shelf.Signed.{ints}
 use Rattle.std.proofs.shelf.Tests.{cond-true, cond-false, cond-both, ne-eqb, both-ways}
 use Rattle.std.specs.declared.option.Option.{Option}
 use Rattle.std.specs.declared.option.Option.the-variants.{Some, None}
-use Rattle.guests.specs.Guests.{Host, Wants, Owed, sum-below, sumℤ-below}
-use Rattle.guests.proofs.Sums.{sum-below-le, sum-below-one, sumℤ-below-moved, sumℤ-below-same}
+use Rattle.guests.specs.Guests.{Agree, Host, Wants, Owed, sum-below, sumℤ-below}
+use Rattle.guests.proofs.Sums.{sum-below-le, sumℤ-below-moved, sumℤ-below-same}
 use Rattle.bounds.specs.Laws.{Chosen, Slice-laws}
 use Rattle.bounds.specs.Rule.{earned, wanting, claim, runner, is-runner, paid, after-slice}
 use Rattle.bounds.proofs.Runner.{chosen-runner}
+use Rattle.sets.proofs.Sums.{sum-over-one}
 
 module _ (h : Host) (w : Wants) where
   pub earned-asleep : (g : ℕ) → w g ≡ false → earned h w g ≡ 0
@@ -33,7 +34,7 @@ module _ (h : Host) (w : Wants) where
     paid-all : (r : Option ℕ) → Chosen w (claim h w o) (h .guests) r → sum-below (h .guests) (λ g. cond (is-runner r g) (wanting h w) 0) ≡ wanting h w
     paid-all None none =
         omega (arith, sum-below-le (h .guests) 0 (λ g. 0) (λ g b. omega arith), wanting-none (h .guests) none)
-    paid-all (Some g) c = sum-below-one (h .guests) g (wanting h w) (c .0)
+    paid-all (Some g) c = sum-over-one (h .guests) g (λ _. wanting h w) (c .0)
 
     -- who does not want is not the runner
     paid-asleep : (r : Option ℕ) → Chosen w (claim h w o) (h .guests) r → (g : ℕ) → w g ≡ false → cond (is-runner r g) (wanting h w) 0 ≡ 0
@@ -57,7 +58,7 @@ module _ (h : Host) (w : Wants) where
         omega (arith, ints)
 
     -- the laws hold of whatever is owed after a slice, as the rule has it
-    pub slice-laws : (o₁ : Owed) (r : Option ℕ) → ((g : ℕ) → g < h .guests → o₁ g ≡ after-slice h w o g) → runner h w o ≡ r → Slice-laws h w o o₁ r
+    pub slice-laws : (o₁ : Owed) (r : Option ℕ) → Agree (h .guests) o₁ (after-slice h w o) → runner h w o ≡ r → Slice-laws h w o o₁ r
     slice-laws o₁ r after runs =
         record {
           chosen = chosen-is r runs;

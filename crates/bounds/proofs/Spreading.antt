@@ -10,7 +10,7 @@ use Rattle.std.proofs.shelf.Signed.{ints}
 use Rattle.std.proofs.shelf.Tests.{eqb-true, both-ways}
 use Rattle.std.specs.declared.option.Option.{Option}
 use Rattle.std.specs.declared.option.Option.the-variants.{Some, None}
-use Rattle.guests.specs.Guests.{Host, Wants, Owed, sum-below, sumℤ-below, total}
+use Rattle.guests.specs.Guests.{Host, Wants, Owed, sumℤ-below, total}
 use Rattle.guests.proofs.Sums.{sum-below-part}
 use Rattle.bounds.specs.Laws.{Chosen}
 use Rattle.bounds.specs.Rule.{earned, wanting, claim, runner, is-runner, after-slice}
@@ -28,15 +28,11 @@ above o g = up (o g)
 abbrev below : Owed → ℕ → ℕ
 below o g = down (o g)
 
-sum-over-all : (n : ℕ) (f : ℕ → ℕ) → sum-over n all f ≡ sum-below n f
-sum-over-all zero f = refl
-sum-over-all (suc n) f = ap (λ s. s + f n) (sum-over-all n f)
-
 module _ (h : Host) (w : Wants) (o : Owed) where
   covered : (r : Option ℕ) → Chosen w (claim h w o) (h .guests) r → sum-over (h .guests) all (earned h w) ≤ wanting h w * size (h .guests) (is-runner r)
-  covered None none = omega (arith, sum-over-all (h .guests) (earned h w), wanting-none h w (h .guests) none)
+  covered None none = omega (arith, wanting-none h w (h .guests) none)
   covered (Some r) c =
-      omega (arith, sum-over-all (h .guests) (earned h w), ap (λ n. wanting h w * n) (sum-over-one (h .guests) r (λ _. 1) (c .0)))
+      omega (arith, ap (λ n. wanting h w * n) (sum-over-one (h .guests) r (λ _. 1) (c .0)))
 
   beaten : (r : Option ℕ) → Chosen w (claim h w o) (h .guests) r → (g k : ℕ) → g < h .guests → w g ≡ true → is-runner r k ≡ true → above o g + earned h w g + below o k ≤ above o k + earned h w k + below o g
   beaten None none g k b awake runs = absurd (both-ways false refl runs)

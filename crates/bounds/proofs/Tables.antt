@@ -8,10 +8,10 @@ use lib.ListN.{length, getD}
 use Rattle.std.proofs.shelf.Counted.{getD-map-counting}
 use Rattle.std.specs.Iters.{counting}
 use Rattle.std.specs.declared.option.Option.the-variants.{Some}
-use Rattle.guests.specs.Guests.{Host, Wants, Owed, owed-in}
+use Rattle.guests.specs.Guests.{Agree, Host, Wants, Owed, owed-in}
 use Rattle.bounds.specs.Rule.{runner, after-slice}
 use Rattle.bounds.specs.Runs.{owed-at, runner-at}
-use Rattle.bounds.proofs.Agree.{Agree, runner-agree, after-agree}
+use Rattle.bounds.proofs.Agree.{runner-agree, after-agree}
 
 -- who runs in a slice, and what is owed after it
 pub record Row : Type 0 where

@@ -10,7 +10,7 @@ use lib.Signed.{_<ℤ_}
 use Rattle.std.specs.Options.{mapped}
 use Rattle.std.specs.declared.option.Option.the-variants.{None}
 use Rattle.guests.specs.Faults.{shares-fault, owed-fault}
-use Rattle.guests.specs.Guests.{Host, Wants, Owed, host-in, owed-in, total, sumℤ-below}
+use Rattle.guests.specs.Guests.{Agree, Host, Wants, Owed, host-in, owed-in, total, sumℤ-below}
 use Rattle.bounds.specs.Rule.{wanting}
 use Rattle.bounds.specs.Runs.{nothing-owed, owed-at, runner-at, ran}
 
@@ -113,7 +113,7 @@ Unnoticed-asleep =
 -- What comes of slices from nothing owed is never refused as an amount.
 abbrev pub Never-refused : Type 0
 Never-refused =
-    (ss : List ℕ) (ws : ℕ → Wants) (t : ℕ) (os : List ℤ) → shares-fault ss ≡ None → length os ≡ length ss → ((g : ℕ) → g < length ss → owed-in os g ≡ owed-at (host-in ss) ws nothing-owed t g) → owed-fault (length ss) (total (host-in ss)) os ≡ None
+    (ss : List ℕ) (ws : ℕ → Wants) (t : ℕ) (os : List ℤ) → shares-fault ss ≡ None → length os ≡ length ss → Agree (length ss) (owed-in os) (owed-at (host-in ss) ws nothing-owed t) → owed-fault (length ss) (total (host-in ss)) os ≡ None
 
 -- `Bounded` where there are two guests: their shares together are the two largest.
 abbrev pub Bounded-for-two : Type 0

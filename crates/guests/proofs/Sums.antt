@@ -1,15 +1,13 @@
 -- Sums over the guests below n: one guest more, bounds, and sums of sums.
-use mathlib.Core.Bool.{cond}
 use mathlib.Core.Path.{_≡_, refl, ap}
 use Prim.Native.Nat.{ℕ, zero, suc, _+_, _*_, _<_, _≤_}
 use native.Mathlib.Numerals.{add-one}
 use native.Mathlib.Omega.{arith}
-use lib.Dec.{eqb}
 use lib.IntN.{ℤ, pos, _+ℤ_, _-ℤ_}
 use mathlib.Core.Logic.{inl, inr}
 use Rattle.std.proofs.shelf.Signed.{ints}
-use Rattle.std.proofs.shelf.Tests.{cases-eq, eq-eqb, ne-eqb, cond-true, cond-false}
-use Rattle.guests.specs.Guests.{sum-below, sumℤ-below}
+use Rattle.std.proofs.shelf.Tests.{cases-eq}
+use Rattle.guests.specs.Guests.{Agree, sum-below, sumℤ-below}
 
 pub sum-below-more : (n : ℕ) (f : ℕ → ℕ) → sum-below (n + 1) f ≡ sum-below n f + f n
 sum-below-more n f = ap (λ k. sum-below k f) (add-one n)
@@ -17,7 +15,7 @@ sum-below-more n f = ap (λ k. sum-below k f) (add-one n)
 pub sumℤ-below-more : (n : ℕ) (f : ℕ → ℤ) → sumℤ-below (n + 1) f ≡ sumℤ-below n f +ℤ f n
 sumℤ-below-more n f = ap (λ k. sumℤ-below k f) (add-one n)
 
-pub sumℤ-below-same : (n : ℕ) (f g : ℕ → ℤ) → ((k : ℕ) → k < n → f k ≡ g k) → sumℤ-below n f ≡ sumℤ-below n g
+pub sumℤ-below-same : (n : ℕ) (f g : ℕ → ℤ) → Agree n f g → sumℤ-below n f ≡ sumℤ-below n g
 sumℤ-below-same zero f g same = omega (arith, ints)
 sumℤ-below-same (suc n) f g same =
     let here = same n (omega arith) in
@@ -36,20 +34,6 @@ pub sum-below-part : (n : ℕ) (f : ℕ → ℕ) (g : ℕ) → g < n → f g ≤
 sum-below-part zero f g h = absurd (omega arith)
 sum-below-part (suc n) f g h =
     elim (cases-eq g n) [ inl e ↦ omega (arith, ap f e) | inr e ↦ omega (arith, sum-below-part n f g (omega arith)) ]
-
--- what one guest pays
-pub sum-below-none : (n r c : ℕ) → n ≤ r → sum-below n (λ g. cond (eqb g r) c 0) ≡ 0
-sum-below-none zero r c h = omega arith
-sum-below-none (suc n) r c h =
-    omega (arith, sum-below-none n r c (omega arith), cond-false (eqb n r) c 0 (ne-eqb n r (λ e. omega arith)))
-
-pub sum-below-one : (n r c : ℕ) → r < n → sum-below n (λ g. cond (eqb g r) c 0) ≡ c
-sum-below-one zero r c h = absurd (omega arith)
-sum-below-one (suc n) r c h =
-    elim (cases-eq n r) [
-      | inl e ↦ omega (arith, sum-below-none n r c (omega arith), cond-true (eqb n r) c 0 (eq-eqb n r e))
-      | inr e ↦ omega (arith, sum-below-one n r c (omega arith), cond-false (eqb n r) c 0 (ne-eqb n r e))
-    ]
 
 -- what all are owed moves by what all earn less what all pay
 pub sumℤ-below-moved : (n : ℕ) (o : ℕ → ℤ) (e p : ℕ → ℕ) → sumℤ-below n (λ g. o g +ℤ pos (e g) -ℤ pos (p g)) ≡ sumℤ-below n o +ℤ pos (sum-below n e) -ℤ pos (sum-below n p)

@@ -8,6 +8,7 @@ use lib.Dec.{leb}
 use lib.IntN.{ℤ, pos, natAbs}
 use lib.ListN.{length, getD}
 use Rattle.std.proofs.shelf.Bits.{mul-le}
+use Rattle.std.proofs.shelf.Signed.{ints}
 use Rattle.std.proofs.shelf.Tests.{and-parts, leb-true, ltb-true, eqb-true}
 use Rattle.std.specs.declared.option.Option.the-variants.{None}
 use Rattle.guests.specs.Faults.{fault, shares-fault, wants-fault, first-failing, fault-unless, share-ok, want-ok, amount-ok}
@@ -31,7 +32,7 @@ pub record Taken (ss ws : List ℕ) (os : List ℤ) : Type 0 where
   pub want-most : (g : ℕ) → g < length ss → getD ws g 0 ≤ 1
   pub owed-long : length os ≡ length ss
   pub owed-most : (g : ℕ) → g < length ss → natAbs (getD os g (pos 0)) < total (host-in ss) * length ss
-  pub owed-sum : natAbs (sumℤ-below (length ss) (owed-in os)) ≡ 0
+  pub owed-sum : sumℤ-below (length ss) (owed-in os) ≡ pos 0
 
 module _ (ss ws : List ℕ) (os : List ℤ) where
   pub taken : fault ss ws os ≡ None → Taken ss ws os
@@ -47,6 +48,7 @@ module _ (ss ws : List ℕ) (os : List ℤ) where
       let each-want = each-from-first-failing want-ok WantAboveOne ws 0 (wants .1) in
       let each-owed = each-from-first-failing (amount-ok _) OwedOutOfRange os (pos 0) (range .0) in
       let wants-long : length ws ≡ length ss = eqb-true _ _ (fault-unless-none _ _ (wants .0)) in
+      let sum-none : natAbs (sumℤ-below (length ss) (owed-in os)) ≡ 0 = eqb-true _ _ (fault-unless-none _ _ (range .1)) in
       let owed-long : length os ≡ length ss = eqb-true _ _ (fault-unless-none _ _ (owed .0)) in
       record {
         some = ltb-true _ _ (fault-unless-none _ _ (some .0));
@@ -57,7 +59,7 @@ module _ (ss ws : List ℕ) (os : List ℤ) where
         want-most = λ g h. leb-true _ _ (each-want g (rw wants-long h));
         owed-long = owed-long;
         owed-most = λ g h. ltb-true _ _ (each-owed g (rw owed-long h));
-        owed-sum = eqb-true _ _ (fault-unless-none _ _ (range .1));
+        owed-sum = omega (arith, ints, sum-none);
       }
 
 -- the numbers that arithmetic rests on

@@ -1,7 +1,8 @@
 -- A host and its guests, who wants to run, and sums over the guests. Assumes nothing: these are definitions.
 use mathlib.Core.Bool.{Bool}
 use mathlib.Core.List.{List, map}
-use Prim.Native.Nat.{ℕ, zero, suc, _+_}
+use mathlib.Core.Path.{_≡_}
+use Prim.Native.Nat.{ℕ, zero, suc, _+_, _<_}
 use lib.ListN.{length, getD}
 use lib.Dec.{eqb}
 use lib.Lanes.{maskL}
@@ -19,6 +20,10 @@ Wants = ℕ → Bool
 -- what each guest is owed: service due less service had, counted in shares
 abbrev pub Owed : Type 0
 Owed = ℕ → ℤ
+
+-- each of n guests is owed the same
+abbrev pub Agree : ℕ → Owed → Owed → Type 0
+Agree n o p = (g : ℕ) → g < n → o g ≡ p g
 
 -- f 0 + .. + f (n - 1)
 abbrev pub sum-below : ℕ → (ℕ → ℕ) → ℕ

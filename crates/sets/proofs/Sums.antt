@@ -6,6 +6,7 @@ use native.Mathlib.Nat.{le-dest, le-of-mul-le-mul-left}
 use native.Mathlib.Omega.{arith}
 use lib.Dec.{eqb, ltb}
 use Rattle.std.proofs.shelf.Ways.{tells}
+use Rattle.guests.specs.Guests.{sum-below}
 
 abbrev pub all : ℕ → Bool
 all g = true
@@ -22,8 +23,7 @@ abbrev pub _∪_ : (A B : ℕ → Bool) → ℕ → Bool
 (A ∪ B) g = A g || B g
 
 abbrev pub sum-over : ℕ → (ℕ → Bool) → (ℕ → ℕ) → ℕ
-sum-over zero A f = 0
-sum-over (suc n) A f = sum-over n A f + cond (A n) (f n) 0
+sum-over n A f = sum-below n (λ g. cond (A g) (f g) 0)
 
 abbrev pub size : ℕ → (ℕ → Bool) → ℕ
 size n A = sum-over n A (λ _. 1)

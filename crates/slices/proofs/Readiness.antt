@@ -1,17 +1,16 @@
 -- Lists that are not refused are ready for a slice, and so is whatever any number of slices make of them.
 use mathlib.Core.List.{List}
 use mathlib.Core.Path.{_≡_, refl, _∙_, ap}
-use Prim.Native.Nat.{ℕ, _<_}
+use Prim.Native.Nat.{ℕ}
 use native.Mathlib.Omega.{arith}
-use lib.IntN.{ℤ, pos, natAbs}
+use lib.IntN.{ℤ, natAbs}
 use lib.ListN.{length}
 use Rattle.std.proofs.shelf.Bits.{mul-le}
-use Rattle.std.proofs.shelf.Signed.{ints}
 use Rattle.std.specs.declared.option.Option.the-variants.{None}
 use Rattle.std.specs.declared.result.Result.{Result}
 use Rattle.std.specs.declared.result.Result.the-variants.{Ok, Err}
 use Rattle.guests.specs.Faults.{Checks, fault}
-use Rattle.guests.specs.Guests.{host-in, wants-in, owed-in, total, wants-bits}
+use Rattle.guests.specs.Guests.{Agree, host-in, wants-in, owed-in, total, wants-bits}
 use Rattle.guests.specs.declared.faults.Fault.{Fault}
 use Rattle.guests.specs.declared.wanting.Runnable.{Runnable}
 use Rattle.guests.proofs.Taken.{taken, total-most}
@@ -19,16 +18,13 @@ use Rattle.bounds.specs.Runs.{owed-at}
 use Rattle.bounds.proofs.Spreading.{owed-at-most}
 use Rattle.slices.specs.Steps.{Ready}
 
-nothing-from-abs : (z : ℤ) → natAbs z ≡ 0 → z ≡ pos 0
-nothing-from-abs z e = omega (arith, ints)
-
 module _ (ss ws : List ℕ) (os : List ℤ) (accepted : fault ss ws os ≡ None) where
-  pub ready-at : (t : ℕ) (os₁ : List ℤ) → length os₁ ≡ length os → ((g : ℕ) → g < length ss → owed-in os₁ g ≡ owed-at (host-in ss) (λ _. wants-in ws) (owed-in os) t g) → Ready ss ws os₁
+  pub ready-at : (t : ℕ) (os₁ : List ℤ) → length os₁ ≡ length os → Agree (length ss) (owed-in os₁) (owed-at (host-in ss) (λ _. wants-in ws) (owed-in os) t) → Ready ss ws os₁
   ready-at t os₁ long same =
       let k = taken ss ws os accepted in
       let n = length ss in
       let s = total (host-in ss) in
-      let most = owed-at-most (host-in ss) (λ _. wants-in ws) (owed-in os) (nothing-from-abs _ (k .owed-sum)) (λ g b. omega (arith, k .owed-most g b)) t in
+      let most = owed-at-most (host-in ss) (λ _. wants-in ws) (owed-in os) (k .owed-sum) (λ g b. omega (arith, k .owed-most g b)) t in
       let few = mul-le s n 64000 64 (total-most ss ws os k) (k .few) in
       record {
         few = k .few;

@@ -15,7 +15,7 @@ use Rattle.bounds.specs.Rule.{runner}
 use Rattle.bounds.specs.Runs.{owed-at, runner-at}
 use Rattle.bounds.proofs.Agree.{runner-agree, after-agree}
 use Rattle.bounds.proofs.Balance.{owed-sum-same, sleeps-free}
-use Rattle.guests.specs.Guests.{host-in, wants-in, owed-in}
+use Rattle.guests.specs.Guests.{Agree, host-in, wants-in, owed-in}
 use Rattle.guests.proofs.Sums.{sumℤ-below-same}
 use Rattle.slices.specs.Answers.{Settles}
 use Rattle.slices.specs.Stretches.{Stretch-laws}
@@ -23,7 +23,7 @@ use Rattle.slices.specs.Stretches.{Stretch-laws}
 module _ (ss ws : List ℕ) (os : List ℤ) where
   -- os₁ is owed after t slices
   abbrev After : ℕ → List ℤ → Type 0
-  After t os₁ = (g : ℕ) → g < length ss → owed-in os₁ g ≡ owed-at (host-in ss) (λ _. wants-in ws) (owed-in os) t g
+  After t os₁ = Agree (length ss) (owed-in os₁) (owed-at (host-in ss) (λ _. wants-in ws) (owed-in os) t)
 
   stretch-laws : (t : ℕ) (os₁ : List ℤ) → After t os₁ → Stretch-laws ss ws os os₁
   stretch-laws t os₁ after = record {

@@ -1,12 +1,12 @@
 -- What `slice` answers and leaves behind, over the lists that it is lent. Assumes nothing: these are definitions.
 use mathlib.Core.List.{List}
 use mathlib.Core.Path.{_≡_}
-use Prim.Native.Nat.{ℕ, _<_}
+use Prim.Native.Nat.{ℕ}
 use lib.IntN.{ℤ}
 use lib.ListN.{length}
 use Rattle.std.specs.declared.option.Option.{Option}
 use Rattle.std.specs.declared.option.Option.the-variants.{Some, None}
-use Rattle.guests.specs.Guests.{host-in, wants-in, owed-in}
+use Rattle.guests.specs.Guests.{Agree, host-in, wants-in, owed-in}
 use Rattle.guests.specs.Numbers.{number-of}
 use Rattle.guests.specs.declared.faults.Fault.{Fault}
 use Rattle.bounds.specs.Laws.{Slice-laws}
@@ -17,8 +17,7 @@ use Rattle.slices.specs.declared.Done.the-variants.{Works, Idle, Refused}
 -- what is owed after a slice, as the rule has it
 abbrev pub Settles : (shares wants : List ℕ) → (owed owed₁ : List ℤ) → Type 0
 Settles ss ws os os₁ =
-    (length os₁ ≡ length os)
-    × ((g : ℕ) → g < length ss → owed-in os₁ g ≡ after-slice (host-in ss) (wants-in ws) (owed-in os) g)
+    (length os₁ ≡ length os) × Agree (length ss) (owed-in os₁) (after-slice (host-in ss) (wants-in ws) (owed-in os))
 
 abbrev pub answer : Option ℕ → Done
 answer None = Idle

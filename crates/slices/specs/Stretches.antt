@@ -6,7 +6,7 @@ use Prim.Native.Nat.{ℕ, _<_}
 use lib.IntN.{ℤ}
 use lib.ListN.{length, getD}
 use Rattle.bounds.specs.Runs.{owed-at, runner-at}
-use Rattle.guests.specs.Guests.{host-in, wants-in, owed-in, sumℤ-below}
+use Rattle.guests.specs.Guests.{Agree, host-in, wants-in, owed-in, sumℤ-below}
 use Rattle.std.specs.declared.option.Option.{Option}
 use Rattle.std.specs.declared.option.Option.the-variants.{None}
 
@@ -15,7 +15,7 @@ abbrev pub Gives : (shares wants : List ℕ) → (owed owed₁ : List ℤ) → (
 Gives ss ws os os₁ rs₁ =
     ((t : ℕ) → t < length rs₁ → getD rs₁ t None ≡ runner-at (host-in ss) (λ _. wants-in ws) (owed-in os) t)
     × (length os₁ ≡ length os)
-    × ((g : ℕ) → g < length ss → owed-in os₁ g ≡ owed-at (host-in ss) (λ _. wants-in ws) (owed-in os) (length rs₁) g)
+    × Agree (length ss) (owed-in os₁) (owed-at (host-in ss) (λ _. wants-in ws) (owed-in os) (length rs₁))
 
 -- whatever the answer: who does not want is owed what it was, and all together what they were
 pub record Stretch-laws (ss ws : List ℕ) (os os₁ : List ℤ) : Type 0 where

@@ -86,7 +86,7 @@ fn what_stands_is_not_refused(rt: LibcRuntime) -> Result<(), Fail> {
     )
 }
 
-// Each amount stays within its limit of 16 for one slice, and not for two.
+// The amounts are within their limit of 16 before the first slice, and not before the second.
 #[test]
 fn what_passes_its_limit_on_the_way_is_refused(rt: LibcRuntime) -> Result<(), Fail> {
     let heap = rt.alloc();
