@@ -64,10 +64,12 @@ module _ (g : ℕ) where
           rw add-suc (here ∙ before)
 
 pub unnoticed-asleep : Unnoticed-asleep
+unfolding Unnoticed-asleep
 unnoticed-asleep h ws o g a k t inside asleep b =
     runner-without g h inside (ws (a + t)) (asleep (a + t) (omega arith) (omega arith)) (owed-at h ws o (a + t))
     ∙ ap (mapped (past g)) (runner-agree (without g h) (others g (ws (a + t))) _ _ (owed-without g h inside ws o a k asleep t (omega arith)))
 
 pub unnoticed : Unnoticed
+unfolding Unnoticed Unnoticed-asleep
 unnoticed h ws g t inside never =
     simp zero-add at (unnoticed-asleep h ws nothing-owed g 0 (suc t) t inside (λ u _ _. never u) (omega arith))

@@ -14,9 +14,11 @@ owed-sum-same h ws o zero = refl
 owed-sum-same h ws o (suc t) = after-balanced h (ws t) (owed-at h ws o t) ∙ owed-sum-same h ws o t
 
 pub comes-to-nothing : Comes-to-nothing
+unfolding Comes-to-nothing
 comes-to-nothing h ws t = owed-sum-same h ws nothing-owed t ∙ sumℤ-below-zero (h .guests)
 
 pub sleeps-free : Sleeps-free
+unfolding Sleeps-free
 sleeps-free h ws o g a zero asleep = ap (λ t. owed-at h ws o t g) (add-zero a)
 sleeps-free h ws o g a (suc k) asleep =
     ap (λ t. owed-at h ws o t g) (add-suc a k)

@@ -1,10 +1,15 @@
 pub mod Absent
 pub mod Agree
+pub mod Attained
+pub mod Awake
 pub mod Balance
+pub mod Bound
 pub mod Earning
+pub mod Everybody
 pub mod Kept
+pub mod Parts
+pub mod Refusals
 pub mod Runner
 pub mod Spreading
 pub mod Tables
 pub mod Three
-pub mod Two

@@ -1,31 +1,33 @@
 -- A slice is a step in which the runner pays, so whatever spread what is owed has it keeps over any run; and what no run can pass.
-use mathlib.Core.Bool.{true, false}
+use mathlib.Core.Bool.{Bool, true, false, cond}
 use mathlib.Core.Path.{_≡_, refl, _∙_, ap}
 use Prim.Native.Nat.{ℕ, zero, suc, _+_, _*_, _-_, _<_, _≤_}
 use borrow.Author.Differences.{up, down}
 use native.Mathlib.Omega.{arith}
+use lib.Dec.{eqb, ltb}
 use lib.IntN.{pos, natAbs}
 use Rattle.std.proofs.shelf.Bits.{mul-le}
 use Rattle.std.proofs.shelf.Signed.{ints}
 use Rattle.std.proofs.shelf.Tests.{eqb-true, both-ways}
+use Rattle.std.proofs.shelf.Ways.{tells}
 use Rattle.std.specs.declared.option.Option.{Option}
 use Rattle.std.specs.declared.option.Option.the-variants.{Some, None}
 use Rattle.guests.specs.Guests.{Host, Wants, Owed, sumℤ-below, total}
-use Rattle.guests.proofs.Sums.{sum-below-part}
+use Rattle.guests.proofs.Sums.{sum-below-part, sum-below-same}
 use Rattle.bounds.specs.Laws.{Chosen}
 use Rattle.bounds.specs.Rule.{earned, wanting, claim, runner, is-runner, after-slice}
 use Rattle.bounds.specs.Runs.{owed-at}
 use Rattle.bounds.proofs.Balance.{owed-sum-same}
 use Rattle.bounds.proofs.Earning.{chosen-is, earned-asleep, earned-most, wanting-none}
-use Rattle.sets.proofs.Spread.{Spread, spread-step, spread-up, spread-down, spread-from-limit}
+use Rattle.sets.proofs.Spread.{Spread, spread-step, spread-from-limit, spread-turned}
 use Rattle.sets.proofs.Step.{Step}
-use Rattle.sets.proofs.Sums.{all, size, sum-over, Pairs, sum-over-one}
+use Rattle.sets.proofs.Sums.{all, ∁, size, size-complement, sum-over, Pairs, sum-over-one}
 
 -- what is owed as naturals: the guests' amounts above 0, and those below
-abbrev above : Owed → ℕ → ℕ
+abbrev pub above : Owed → ℕ → ℕ
 above o g = up (o g)
 
-abbrev below : Owed → ℕ → ℕ
+abbrev pub below : Owed → ℕ → ℕ
 below o g = down (o g)
 
 module _ (h : Host) (w : Wants) (o : Owed) where
@@ -34,13 +36,13 @@ module _ (h : Host) (w : Wants) (o : Owed) where
   covered (Some r) c =
       omega (arith, ap (λ n. wanting h w * n) (sum-over-one (h .guests) r (λ _. 1) (c .0)))
 
-  beaten : (r : Option ℕ) → Chosen w (claim h w o) (h .guests) r → (g k : ℕ) → g < h .guests → w g ≡ true → is-runner r k ≡ true → above o g + earned h w g + below o k ≤ above o k + earned h w k + below o g
+  pub beaten : (r : Option ℕ) → Chosen w (claim h w o) (h .guests) r → (g k : ℕ) → g < h .guests → w g ≡ true → is-runner r k ≡ true → above o g + earned h w g + below o k ≤ above o k + earned h w k + below o g
   beaten None none g k b awake runs = absurd (both-ways false refl runs)
   beaten (Some r) c g k b awake runs =
       let most = c .2 g b awake in
       rw (eqb-true k r runs) (omega (arith, ints))
 
-  slice-step : Step (h .guests) (earned h w) (wanting h w) w (is-runner (runner h w o)) (above o) (below o) (above (after-slice h w o)) (below (after-slice h w o))
+  pub slice-step : Step (h .guests) (earned h w) (wanting h w) w (is-runner (runner h w o)) (above o) (below o) (above (after-slice h w o)) (below (after-slice h w o))
   slice-step = record {
     moves = λ g b. omega (arith, ints);
     asleep = λ g b e. earned-asleep h w g e;
@@ -53,18 +55,33 @@ sumℤ-below-parts : (n : ℕ) (o : Owed) → up (sumℤ-below n o) + sum-over n
 sumℤ-below-parts zero o = omega arith
 sumℤ-below-parts (suc n) o = omega (arith, ints, sumℤ-below-parts n o)
 
+sumℤ-below-at : (n g : ℕ) (o : Owed) → sumℤ-below n (λ k. cond (eqb k g) (o k) (pos 0)) ≡ cond (ltb g n) (o g) (pos 0)
+sumℤ-below-at zero g o = grind (arith, tells)
+sumℤ-below-at (suc n) g o = grind (arith, tells, ints, sumℤ-below-at n g o)
+
+sumℤ-below-one : (n g : ℕ) (o : Owed) → g < n → sumℤ-below n (λ k. cond (eqb k g) (o k) (pos 0)) ≡ o g
+sumℤ-below-one n g o b = grind (arith, tells, sumℤ-below-at n g o)
+
 -- of amounts that come to nothing all together
 module _ (n : ℕ) (o : Owed) (nothing : sumℤ-below n o ≡ pos 0) where
-  even : sum-over n all (above o) ≡ sum-over n all (below o)
-  even = omega (arith, ints, sumℤ-below-parts n o)
+  pub sum-above-is-sum-below : sum-over n all (above o) ≡ sum-over n all (below o)
+  sum-above-is-sum-below = omega (arith, ints, sumℤ-below-parts n o)
+
+  pub together-from-spread : (c : ℕ) → Spread n c (above o) (below o) → (A : ℕ → Bool) → 2 * natAbs (sumℤ-below n (λ g. cond (A g) (o g) (pos 0))) ≤ size n A * (n - size n A) * c
+  together-from-spread c s A =
+      let parts = sumℤ-below-parts n (λ g. cond (A g) (o g) (pos 0)) in
+      let ups : sum-over n all (above (λ g. cond (A g) (o g) (pos 0))) ≡ sum-over n A (above o) = sum-below-same n _ _ (λ g b. grind arith) in
+      let downs : sum-over n all (below (λ g. cond (A g) (o g) (pos 0))) ≡ sum-over n A (below o) = sum-below-same n _ _ (λ g b. grind arith) in
+      let rest : n - size n A ≡ size n (∁ A) = omega (arith, size-complement n A) in
+      rw rest (omega (arith, ints, s A, spread-turned n c (above o) (below o) s sum-above-is-sum-below A))
 
   pub most-from-spread : (c : ℕ) → Spread n c (above o) (below o) → (g : ℕ) → g < n → 2 * natAbs (o g) ≤ (n - 1) * c
   most-from-spread c s g b =
-      omega (arith, ints, spread-up n c (above o) (below o) s g b, spread-down n c (above o) (below o) s even g b)
+      omega (arith, rw (sumℤ-below-one n g o b, sum-over-one n g (λ _. 1) b) at (together-from-spread c s (λ k. eqb k g)))
 
   spread-from-most : (l c : ℕ) → 4 * l ≤ n * c → ((g : ℕ) → g < n → natAbs (o g) ≤ l) → Spread n c (above o) (below o)
   spread-from-most l c small most =
-      spread-from-limit n l c (above o) (below o) small (λ g b. omega (arith, ints, most g b)) (λ g b. omega (arith, ints, most g b)) even
+      spread-from-limit n l c (above o) (below o) small (λ g b. omega (arith, ints, most g b)) (λ g b. omega (arith, ints, most g b)) sum-above-is-sum-below
 
 module _ (h : Host) (ws : ℕ → Wants) (o : Owed) where
   pub spread-at : (c : ℕ) → Pairs (h .guests) c (h .share) → Spread (h .guests) c (above o) (below o) → (t : ℕ) → Spread (h .guests) c (above (owed-at h ws o t)) (below (owed-at h ws o t))

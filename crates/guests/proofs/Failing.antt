@@ -64,6 +64,15 @@ pub fault-unless-none : (b : Bool) (f : Fault) → fault-unless b f ≡ None →
 fault-unless-none true f e = refl
 fault-unless-none false f e = absurd (let z : _≡_ {A = ℕ} 0 1 = cc in omega arith)
 
+leading-all : {X : Type 0} (ok : X → Bool) (xs : List X) (d : X) → ((i : ℕ) → i < length xs → ok (getD xs i d) ≡ true) → leading ok xs ≡ length xs
+leading-all ok [] d each = omega arith
+leading-all ok (x ∷ xs) d each =
+    rw (each 0 (omega arith)) (omega (arith, leading-all ok xs d (λ i h. each (suc i) (omega arith))))
+
+pub first-failing-each : {X : Type 0} (ok : X → Bool) (at : ℕ → Fault) (xs : List X) (d : X) → ((i : ℕ) → i < length xs → ok (getD xs i d) ≡ true) → first-failing ok at xs ≡ None
+first-failing-each ok at xs d each =
+    ap (λ b. fault-unless b (at (leading ok xs))) (eq-eqb (leading ok xs) (length xs) (leading-all ok xs d each))
+
 leading-cons : (b : Bool) (m n : ℕ) → cond b (1 + m) 0 ≡ suc n → (b ≡ true) × (m ≡ n)
 leading-cons true m n e = (refl, omega arith)
 leading-cons false m n e = absurd (omega arith)

@@ -15,6 +15,10 @@ sum-below-more n f = ap (λ k. sum-below k f) (add-one n)
 pub sumℤ-below-more : (n : ℕ) (f : ℕ → ℤ) → sumℤ-below (n + 1) f ≡ sumℤ-below n f +ℤ f n
 sumℤ-below-more n f = ap (λ k. sumℤ-below k f) (add-one n)
 
+pub sum-below-same : (n : ℕ) (f g : ℕ → ℕ) → ((k : ℕ) → k < n → f k ≡ g k) → sum-below n f ≡ sum-below n g
+sum-below-same zero f g same = refl
+sum-below-same (suc n) f g same = omega (arith, same n (omega arith), sum-below-same n f g (λ k h. same k (omega arith)))
+
 pub sumℤ-below-same : (n : ℕ) (f g : ℕ → ℤ) → Agree n f g → sumℤ-below n f ≡ sumℤ-below n g
 sumℤ-below-same zero f g same = omega (arith, ints)
 sumℤ-below-same (suc n) f g same =

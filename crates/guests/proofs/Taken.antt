@@ -12,7 +12,7 @@ use Rattle.std.proofs.shelf.Signed.{ints}
 use Rattle.std.proofs.shelf.Tests.{and-parts, leb-true, ltb-true, eqb-true}
 use Rattle.std.specs.declared.option.Option.the-variants.{None}
 use Rattle.guests.specs.Faults.{fault, shares-fault, wants-fault, first-failing, fault-unless, share-ok, want-ok, amount-ok}
-use Rattle.guests.specs.Guests.{host-in, owed-in, total, sumℤ-below}
+use Rattle.guests.specs.Guests.{Valid, host-in, owed-in, total, sumℤ-below}
 use Rattle.guests.specs.declared.faults.Fault.the-variants.{NoGuests, TooManyGuests, ShareOutOfRange, WantsLength, WantAboveOne, OwedLength, OwedOutOfRange}
 use Rattle.guests.proofs.Failing.{or-else-none, fault-unless-none, each-from-first-failing}
 use Rattle.guests.proofs.Sums.{sum-below-le}
@@ -24,37 +24,40 @@ pub share-ok-most : (s : ℕ) → share-ok s ≡ true → s ≤ 1000
 share-ok-most s e = leb-true s 1000 (and-parts (leb 1 s) (leb s 1000) e .1)
 
 pub record Taken (ss ws : List ℕ) (os : List ℤ) : Type 0 where
-  pub some : 0 < length ss
-  pub few : length ss ≤ 64
-  pub share-least : (g : ℕ) → g < length ss → 1 ≤ getD ss g 0
-  pub share-most : (g : ℕ) → g < length ss → getD ss g 0 ≤ 1000
+  pub host : Valid (host-in ss)
   pub wants-long : length ws ≡ length ss
   pub want-most : (g : ℕ) → g < length ss → getD ws g 0 ≤ 1
   pub owed-long : length os ≡ length ss
   pub owed-most : (g : ℕ) → g < length ss → natAbs (getD os g (pos 0)) < total (host-in ss) * length ss
   pub owed-sum : sumℤ-below (length ss) (owed-in os) ≡ pos 0
 
+pub valid-shares : (ss : List ℕ) → shares-fault ss ≡ None → Valid (host-in ss)
+valid-shares ss e =
+    let some = or-else-none (fault-unless _ NoGuests) _ e in
+    let few = or-else-none (fault-unless _ TooManyGuests) _ (some .1) in
+    let each = each-from-first-failing share-ok ShareOutOfRange ss 0 (few .1) in
+    record {
+      some = ltb-true _ _ (fault-unless-none _ _ (some .0));
+      few = leb-true _ _ (fault-unless-none _ _ (few .0));
+      share-least = λ g h. share-ok-least _ (each g h);
+      share-most = λ g h. share-ok-most _ (each g h);
+    }
+
 module _ (ss ws : List ℕ) (os : List ℤ) where
   pub taken : fault ss ws os ≡ None → Taken ss ws os
   taken e =
       let shares = or-else-none (shares-fault ss) _ e in
       let rest = or-else-none (wants-fault (length ss) ws) _ (shares .1) in
-      let some = or-else-none (fault-unless _ NoGuests) _ (shares .0) in
-      let few = or-else-none (fault-unless _ TooManyGuests) _ (some .1) in
       let wants = or-else-none (fault-unless _ (WantsLength _)) _ (rest .0) in
       let owed = or-else-none (fault-unless _ (OwedLength _)) _ (rest .1) in
       let range = or-else-none (first-failing (amount-ok _) OwedOutOfRange os) _ (owed .1) in
-      let each-share = each-from-first-failing share-ok ShareOutOfRange ss 0 (few .1) in
       let each-want = each-from-first-failing want-ok WantAboveOne ws 0 (wants .1) in
       let each-owed = each-from-first-failing (amount-ok _) OwedOutOfRange os (pos 0) (range .0) in
       let wants-long : length ws ≡ length ss = eqb-true _ _ (fault-unless-none _ _ (wants .0)) in
       let sum-none : natAbs (sumℤ-below (length ss) (owed-in os)) ≡ 0 = eqb-true _ _ (fault-unless-none _ _ (range .1)) in
       let owed-long : length os ≡ length ss = eqb-true _ _ (fault-unless-none _ _ (owed .0)) in
       record {
-        some = ltb-true _ _ (fault-unless-none _ _ (some .0));
-        few = leb-true _ _ (fault-unless-none _ _ (few .0));
-        share-least = λ g h. share-ok-least _ (each-share g h);
-        share-most = λ g h. share-ok-most _ (each-share g h);
+        host = valid-shares ss (shares .0);
         wants-long = wants-long;
         want-most = λ g h. leb-true _ _ (each-want g (rw wants-long h));
         owed-long = owed-long;
@@ -65,7 +68,7 @@ module _ (ss ws : List ℕ) (os : List ℤ) where
 -- the numbers that arithmetic rests on
 module _ (ss ws : List ℕ) (os : List ℤ) (t : Taken ss ws os) where
   pub total-most : total (host-in ss) ≤ 64000
-  total-most = omega (arith, sum-below-le (length ss) 1000 (λ g. getD ss g 0) (t .share-most), t .few)
+  total-most = omega (arith, sum-below-le (length ss) 1000 (λ g. getD ss g 0) (t .host .share-most), t .host .few)
 
   pub owed-small : (g : ℕ) → g < length ss → natAbs (getD os g (pos 0)) ≤ 4096000
-  owed-small g h = omega (arith, t .owed-most g h, mul-le (total (host-in ss)) (length ss) 64000 64 total-most (t .few))
+  owed-small g h = omega (arith, t .owed-most g h, mul-le (total (host-in ss)) (length ss) 64000 64 total-most (t .host .few))

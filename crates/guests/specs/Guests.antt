@@ -2,7 +2,7 @@
 use mathlib.Core.Bool.{Bool}
 use mathlib.Core.List.{List, map}
 use mathlib.Core.Path.{_≡_}
-use Prim.Native.Nat.{ℕ, zero, suc, _+_, _<_}
+use Prim.Native.Nat.{ℕ, zero, suc, _+_, _<_, _≤_}
 use lib.ListN.{length, getD}
 use lib.Dec.{eqb}
 use lib.Lanes.{maskL}
@@ -12,6 +12,13 @@ use lib.IntN.{ℤ, pos, _+ℤ_}
 pub record Host : Type 0 where
   pub guests : ℕ
   pub share : ℕ → ℕ
+
+-- 1 to 64 guests, each with a share from 1 to 1,000
+pub record Valid (h : Host) : Type 0 where
+  pub some : 1 ≤ h .guests
+  pub few : h .guests ≤ 64
+  pub share-least : (g : ℕ) → g < h .guests → 1 ≤ h .share g
+  pub share-most : (g : ℕ) → g < h .guests → h .share g ≤ 1000
 
 -- who wants to run in a slice
 abbrev pub Wants : Type 0

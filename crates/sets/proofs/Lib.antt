@@ -1,3 +1,4 @@
+pub mod Harmonic
 pub mod Spread
 pub mod Step
 pub mod Sums

@@ -1,17 +1,19 @@
--- Twice what a set of guests is owed is at most c times its size times that of the rest: a step keeps this, and it bounds what each is owed.
+-- Twice what a set of guests is owed is at most c times its size times that of the rest: a step keeps this.
 use mathlib.Core.Bool.{Bool, cond}
 use mathlib.Core.Logic.{inl, inr}
 use mathlib.Core.Path.{_≡_}
-use Prim.Native.Nat.{ℕ, _+_, _-_, _*_, _<_, _≤_}
+use Prim.Native.Nat.{ℕ, _+_, _*_, _<_, _≤_}
 use native.Mathlib.Nat.{eq-zero-or-pos, mul-le-mul-left, le-of-mul-le-mul-left}
 use native.Mathlib.Omega.{arith}
-use lib.Dec.{eqb}
 use Rattle.std.proofs.shelf.Tests.{cases-lt}
 use Rattle.sets.proofs.Step.{Step, waiting, settled, payers, step-keeps, step-mean}
-use Rattle.sets.proofs.Sums.{all, ∁, _∩_, _∪_, sum-over, size, Pairs, size-complement, sum-over-cond, sum-over-le, sum-over-one, sum-over-pairs, sum-over-split, sum-over-union}
+use Rattle.sets.proofs.Sums.{all, ∁, _∩_, _∪_, sum-over, size, Pairs, size-complement, sum-over-cond, sum-over-le, sum-over-pairs, sum-over-split, sum-over-union}
 
 abbrev pub Spread : (n c : ℕ) (u v : ℕ → ℕ) → Type 0
 Spread n c u v = (A : ℕ → Bool) → 2 * sum-over n A u ≤ size n A * size n (∁ A) * c + 2 * sum-over n A v
+
+pub spread-of-nothing : (n c : ℕ) → Spread n c (λ _. 0) (λ _. 0)
+spread-of-nothing n c A = omega arith
 
 -- the step inequality in numbers: with 2 · a at most x, and 2 · b at most y, 2 · o is at most w
 mean-le : {d m z : ℕ} (x y w e o o′ a a′ b b′ : ℕ) → 0 < d → 0 < m → d * x + m * y + d * m * z ≡ (d + m) * w → 2 * e ≤ z → 2 * a ≤ x + 2 * a′ → 2 * b ≤ y + 2 * b′ → (d + m) * o + d * a′ + m * b′ ≤ (d + m) * o′ + d * a + m * b + d * e → 2 * o ≤ w + 2 * o′
@@ -75,19 +77,8 @@ spread-from-limit n l c u v small up down even A =
       | inr more ↦ omega (arith, half-le r k l c more (omega arith), sum-over-split n all A u, sum-over-split n all A v)
     ]
 
-module _ (n c : ℕ) where
-  -- what a set is owed, the rest owes
-  spread-turned : (u v : ℕ → ℕ) → Spread n c u v → sum-over n all u ≡ sum-over n all v → Spread n c v u
-  spread-turned u v spread even A =
-      let back : size n (∁ (∁ A)) ≡ size n A = omega (arith, size-complement n A, size-complement n (∁ A)) in
-      omega (arith, rw back at (spread (∁ A)), sum-over-split n all A u, sum-over-split n all A v)
-
-  pub spread-up : (u v : ℕ → ℕ) → Spread n c u v → (g : ℕ) → g < n → 2 * u g ≤ (n - 1) * c + 2 * v g
-  spread-up u v spread g h =
-      let one : ℕ → Bool = λ k. eqb k g in
-      let here = sum-over-one n g (λ _. 1) h in
-      let rest : size n (∁ one) ≡ n - 1 = omega (arith, size-complement n one) in
-      omega (arith, rw (here, rest) at (spread one), sum-over-one n g u h, sum-over-one n g v h)
-
-  pub spread-down : (u v : ℕ → ℕ) → Spread n c u v → sum-over n all u ≡ sum-over n all v → (g : ℕ) → g < n → 2 * v g ≤ (n - 1) * c + 2 * u g
-  spread-down u v spread even = spread-up v u (spread-turned u v spread even)
+-- what a set is owed, the rest owes
+pub spread-turned : (n c : ℕ) (u v : ℕ → ℕ) → Spread n c u v → sum-over n all u ≡ sum-over n all v → Spread n c v u
+spread-turned n c u v spread even A =
+    let back : size n (∁ (∁ A)) ≡ size n A = omega (arith, size-complement n A, size-complement n (∁ A)) in
+    omega (arith, rw back at (spread (∁ A)), sum-over-split n all A u, sum-over-split n all A v)

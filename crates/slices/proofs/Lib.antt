@@ -1,4 +1,5 @@
 pub mod Beside
+pub mod Carrying
 pub mod Counted
 pub mod Deciding
 pub mod Ranges

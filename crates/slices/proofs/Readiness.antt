@@ -25,10 +25,10 @@ module _ (ss ws : List ℕ) (os : List ℤ) (accepted : fault ss ws os ≡ None)
       let n = length ss in
       let s = total (host-in ss) in
       let most = owed-at-most (host-in ss) (λ _. wants-in ws) (owed-in os) (k .owed-sum) (λ g b. omega (arith, k .owed-most g b)) t in
-      let few = mul-le s n 64000 64 (total-most ss ws os k) (k .few) in
+      let few = mul-le s n 64000 64 (total-most ss ws os k) (k .host .few) in
       record {
-        few = k .few;
-        share-most = k .share-most;
+        few = k .host .few;
+        share-most = k .host .share-most;
         wants-long = k .wants-long;
         owed-long = long ∙ k .owed-long;
         owed-most = λ g h. omega (arith, ap natAbs (same g h), most g h, few);

@@ -11,6 +11,7 @@ ghost use Rattle.bounds.specs.Rule.{runner};
 ghost use Rattle.guests.specs.Faults.{Checks, fault};
 ghost use Rattle.guests.specs.Guests.{host-in, wants-in, owed-in, wants-bits};
 ghost use Rattle.slices.specs.Answers.{Settles, Slice-keeps, Slice-says, answer};
+ghost use Rattle.slices.specs.Calls.{Carries-on};
 ghost use Rattle.slices.specs.Steps.{Decides, Ready, takes-turn};
 ghost use Rattle.std.specs.Options.{isSome};
 ghost use lib.Dec.{eqb};
@@ -152,6 +153,7 @@ fn give(runnable: Runnable, shares: &[u32], wants: &[u8], owed: &mut [i64]) -> O
     ensures runs { λ r. ⌜ r ≡ runner (host-in (now (shares .entry))) (wants-in (now (wants .entry))) (owed-in (now (owed .entry))) ⌝ }
     ensures settles { λ _. ⌜ Settles (now (shares .entry)) (now (wants .entry)) (now (owed .entry)) (now (owed .exit)) ⌝ }
     ensures keeps { λ r. ⌜ Slice-laws (host-in (now (shares .entry))) (wants-in (now (wants .entry))) (owed-in (now (owed .entry))) (owed-in (now (owed .exit))) r ⌝ }
+    ensures carries { λ _. ⌜ Carries-on (now (shares .entry)) (now (owed .entry)) (now (owed .exit)) ⌝ }
 {
     if runnable.count() == 0 {
         return None;
@@ -174,7 +176,8 @@ impl Done {
 
 // The checks, and what a slice relies on once they have passed.
 fn checked(shares: &[u32], wants: &[u8], owed: &[i64]) -> Result<Runnable, Fault>
-    ensures { λ r. ⌜ Checks (fault (now (shares .entry)) (now (wants .entry)) (now (owed .entry))) (λ w. (w .bits ≡ wants-bits (now (wants .entry))) × Ready (now (shares .entry)) (now (wants .entry)) (now (owed .entry))) r ⌝ }
+    ensures checks { λ r. ⌜ Checks (fault (now (shares .entry)) (now (wants .entry)) (now (owed .entry))) (λ w. (w .bits ≡ wants-bits (now (wants .entry))) × Ready (now (shares .entry)) (now (wants .entry)) (now (owed .entry))) r ⌝ }
+    ensures carries { λ _. ⌜ Carries-on (now (shares .entry)) (now (owed .entry)) (now (owed .entry)) ⌝ }
 {
     check(shares, wants, owed)
 }
@@ -182,6 +185,7 @@ fn checked(shares: &[u32], wants: &[u8], owed: &[i64]) -> Result<Runnable, Fault
 pub fn slice(shares: &[u32], wants: &[u8], owed: &mut [i64]) -> Done
     ensures says { λ r. ⌜ Slice-says (fault (now (shares .entry)) (now (wants .entry)) (now (owed .entry))) (now (shares .entry)) (now (wants .entry)) (now (owed .entry)) (now (owed .exit)) r ⌝ }
     ensures keeps { λ r. ⌜ Slice-keeps (now (shares .entry)) (now (wants .entry)) (now (owed .entry)) (now (owed .exit)) r ⌝ }
+    ensures carries { λ _. ⌜ Carries-on (now (shares .entry)) (now (owed .entry)) (now (owed .exit)) ⌝ }
 {
     match checked(shares, wants, owed) {
         Ok(runnable) => Done::by(give(runnable, shares, wants, owed)),

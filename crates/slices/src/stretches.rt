@@ -3,6 +3,7 @@ ghost use Prim.Native.Nat.{_<_};
 ghost use Rattle.bounds.specs.Promises.{Kept};
 ghost use Rattle.guests.specs.Faults.{Checks, fault};
 ghost use Rattle.guests.specs.Guests.{wants-bits};
+ghost use Rattle.slices.specs.Calls.{Carries-on};
 ghost use Rattle.slices.specs.Stretches.{Gives, Stretch-laws};
 ghost use Rattle.std.specs.Vec.{refused};
 ghost use Rattle.std.specs.declared.option.Option.the-variants.{None};
@@ -31,8 +32,10 @@ fn run(
 )
     requires accepted { ⌜ fault (now shares) (now wants) (now owed) ≡ None ⌝ }
     requires runnable { ⌜ runnable .bits ≡ wants-bits (now wants) ⌝ }
+    requires carries { ⌜ Carries-on (now shares) (now owed) (now owed) ⌝ }
     ensures gives { λ _. ⌜ Gives (now (shares .entry)) (now (wants .entry)) (now (owed .entry)) (now (owed .exit)) (now (runners .exit)) ⌝ }
     ensures keeps { λ _. ⌜ Stretch-laws (now (shares .entry)) (now (wants .entry)) (now (owed .entry)) (now (owed .exit)) ⌝ }
+    ensures carries { λ _. ⌜ Carries-on (now (shares .entry)) (now (owed .entry)) (now (owed .exit)) ⌝ }
 {
     for slice in 0..runners.len() {
         let runner = give(runnable, shares, wants, owed);
@@ -55,6 +58,7 @@ pub fn stretch(
     ensures says { λ r. ⌜ Checks (fault (now (shares .entry)) (now (wants .entry)) (now (owed .entry))) (λ _. Gives (now (shares .entry)) (now (wants .entry)) (now (owed .entry)) (now (owed .exit)) (now (runners .exit))) r ⌝ }
     ensures refuses { λ r. ⌜ refused r (λ _. (now (owed .exit) ≡ now (owed .entry)) × (now (runners .exit) ≡ now (runners .entry))) ⌝ }
     ensures keeps { λ _. ⌜ Stretch-laws (now (shares .entry)) (now (wants .entry)) (now (owed .entry)) (now (owed .exit)) ⌝ }
+    ensures carries { λ _. ⌜ Carries-on (now (shares .entry)) (now (owed .entry)) (now (owed .exit)) ⌝ }
     ensures promises { λ _. ⌜ Kept ⌝ }
 {
     promises_stand();

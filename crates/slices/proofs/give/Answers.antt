@@ -4,6 +4,7 @@ use lib.Count.{ones}
 use lib.ListN.{length}
 use Rattle.std.specs.declared.option.Option.the-variants.{Some, None}
 use Rattle.guests.specs.Guests.{host-in, wants-in, owed-in}
+use Rattle.slices.proofs.Carrying.{carries-on}
 use Rattle.slices.proofs.Counted.{nobody-wants, nobody-runs, somebody-runs}
 use Rattle.bounds.proofs.Earning.{after-asleep, slice-laws}
 use Rattle.slices.proofs.give.Needs as need
@@ -21,6 +22,7 @@ returns-then-count-eq0 c =
       runs = sym runs;
       settles = (refl, same);
       keeps = slice-laws (host-in ss) (wants-in ws) (owed-in os) (owed-in os) None same runs;
+      carries = carries-on ss ws os os 1 refl same;
     }
 
 pub decide-turn-requires : need.decide-turn-requires
@@ -37,4 +39,5 @@ returns c =
       runs = sym (c .decide-turn .ensures .0);
       settles = c .settle .ensures;
       keeps = slice-laws (host-in (c .args .shares .now)) (wants-in (c .args .wants .now)) (owed-in (c .args .owed .now)) (owed-in (c .settle .last .owed)) (Some (c .decide-turn .result .runner)) (c .settle .ensures .1) (c .decide-turn .ensures .0);
+      carries = carries-on (c .args .shares .now) (c .args .wants .now) (c .args .owed .now) (c .settle .last .owed) 1 (c .settle .ensures .0) (c .settle .ensures .1);
     }
