@@ -13,7 +13,6 @@ use Rattle.guests.proofs.Sums.{sum-below-more}
 use Rattle.slices.specs.Steps.{takes-turn}
 use Rattle.bounds.specs.Rule.{beats, claim, earned, runner-below}
 use Rattle.slices.specs.declared.Candidate.{Candidate}
-use Rattle.bounds.proofs.Earning.{earned-asleep, earned-awake}
 use Rattle.bounds.proofs.Runner.{runner-below-more}
 
 abbrev pub candidate : Owed → ℕ → Candidate
@@ -29,30 +28,23 @@ takes-turn-is q n None = refl
 takes-turn-is q n (Some g) = refl
 
 -- the turn of guest i, after which the place is j
-module _ (h : Host) (w : Wants) (q : Owed) (i j : ℕ) (step : j ≡ i + 1) (best : Option Candidate) (cost : ℤ) (s : So-far h w q i best cost) where
+module _ (h : Host) (w : Wants) (q : Owed) (i j : ℕ) (step : j ≡ i + 1) (best best′ : Option Candidate) (cost cost′ : ℤ) (s : So-far h w q i best cost) (is : cost′ ≡ cost +ℤ pos (earned h w i)) where
   runner-next : (b : Bool) → w i ≡ b → runner-below w q j ≡ cond (b && beats q i (runner-below w q i)) (Some i) (runner-below w q i)
   runner-next b e =
       ap (runner-below w q) step ∙ runner-below-more w q i
       ∙ ap (λ t. cond (t && beats q i (runner-below w q i)) (Some i) (runner-below w q i)) e
 
-  sum-next : sum-below j (earned h w) ≡ sum-below i (earned h w) + earned h w i
-  sum-next = ap (λ n. sum-below n (earned h w)) step ∙ sum-below-more i (earned h w)
+  cost-next : cost′ ≡ pos (sum-below j (earned h w))
+  cost-next =
+      let more : sum-below j (earned h w) ≡ sum-below i (earned h w) + earned h w i = ap (λ n. sum-below n (earned h w)) step ∙ sum-below-more i (earned h w) in
+      let so-far = s .cost-is in
+      omega (arith, ints)
 
-  pub so-far-asleep : w i ≡ false → So-far h w q j best cost
-  so-far-asleep e = record {
-    best-is = s .best-is ∙ sym (ap (mapped (candidate q)) (runner-next false e));
-    cost-is = s .cost-is ∙ ap pos (omega (arith, sum-next, earned-asleep h w i e));
-  }
+  pub so-far-asleep : best′ ≡ best → w i ≡ false → So-far h w q j best′ cost′
+  so-far-asleep b e = record { best-is = b ∙ s .best-is ∙ sym (ap (mapped (candidate q)) (runner-next false e)); cost-is = cost-next }
 
   -- who wants: its claim against the best so far
-  module _ (best′ : Option Candidate) (cost′ : ℤ) (is : cost′ ≡ cost +ℤ pos (h .share i)) (e : w i ≡ true) where
-    cost-next : cost′ ≡ pos (sum-below j (earned h w))
-    cost-next =
-        let more = sum-next in
-        let here = earned-awake h w i e in
-        let so-far = s .cost-is in
-        omega (arith, ints)
-
+  module _ (e : w i ≡ true) where
     runner-turn : (t : Bool) → takes-turn (q i) best ≡ t → runner-below w q j ≡ cond t (Some i) (runner-below w q i)
     runner-turn t f =
         runner-next true e

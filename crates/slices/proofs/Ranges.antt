@@ -4,6 +4,7 @@ use mathlib.Core.List.{List}
 use mathlib.Core.Path.{_≡_, sym, _∙_, ap}
 use Prim.Native.Nat.{ℕ, _+_, _^_, _<_, _≤_}
 use native.Mathlib.Omega.{arith}
+use lib.Dec.{eqb}
 use lib.IntN.{ℤ, pos, natAbs, _+ℤ_, _-ℤ_}
 use lib.ListN.{length, getD}
 use mir.Syntax.{w64}
@@ -46,10 +47,10 @@ module _ (ss ws : List ℕ) (os : List ℤ) (t : Ready ss ws os) where
     pub cost-most : natAbs a ≤ 64000
     cost-most = omega (arith, ap natAbs e, earned-sum-most i (omega arith))
 
-    pub cost-is : (r : ℤ) (x : ℕ) → x ≡ getD ss i 0 → r ≡ a +ℤ pos x → toZ w64 (ofZ w64 r) ≡ a +ℤ pos (getD ss i 0)
-    cost-is r x s is =
-        read r (a +ℤ pos (getD ss i 0)) (is ∙ ap (λ n. a +ℤ pos n) s)
-        (omega (arith, abs-add a (pos (getD ss i 0)), cost-most, t .share-most i h))
+    pub cost-is : (r : ℤ) (x v : ℕ) → x ≡ getD ss i 0 → v ≡ getD ws i 0 → r ≡ a +ℤ pos (cond (eqb v 1) x 0) → toZ w64 (ofZ w64 r) ≡ a +ℤ pos (earned (host-in ss) (wants-in ws) i)
+    cost-is r x v s w is =
+        read r (a +ℤ pos (earned (host-in ss) (wants-in ws) i)) (is ∙ ap (λ n. a +ℤ pos n) (ap (λ m. cond (eqb m 1) x 0) w ∙ ap (λ n. cond (wants-in ws i) n 0) s))
+        (omega (arith, abs-add a (pos (earned (host-in ss) (wants-in ws) i)), cost-most, earned-most i h))
 
   -- what guest g is owed, a, earns, e, and pays, p, where somebody runs at the cost c
   module _ (g : ℕ) (h : g < length ss) (runs : Bool) (a e p c : ℤ) (ea : a ≡ owed-in os g) (ee : e ≡ pos (earned (host-in ss) (wants-in ws) g)) (ec : c ≡ pos (wanting (host-in ss) (wants-in ws))) (ep : p ≡ cond runs c (pos 0)) where

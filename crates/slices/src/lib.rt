@@ -4,9 +4,10 @@
 // lowest, and pays the shares of all who want. A guest that does not want neither earns nor pays: it is owed afterwards
 // what it was owed before. What is earned is what is paid, so what is owed comes to nothing, all together, as before.
 // Lists past a limit are refused by a number, and nothing of them is changed.
-ghost use Prim.Native.Nat.{_≤_};
+ghost use Prim.Native.Nat.{_<_, _≤_};
 ghost use Rattle.bounds.specs.Examples.{Turns-of-three, turns-of-three};
 ghost use Rattle.bounds.specs.Laws.{Slice-laws};
+ghost use Rattle.bounds.specs.Rule as rule;
 ghost use Rattle.bounds.specs.Rule.{runner};
 ghost use Rattle.guests.specs.Faults.{Checks, fault};
 ghost use Rattle.guests.specs.Guests.{host-in, wants-in, owed-in, wants-bits};
@@ -16,6 +17,7 @@ ghost use Rattle.slices.specs.Steps.{Decides, Ready, takes-turn};
 ghost use Rattle.std.specs.Options.{isSome};
 ghost use lib.Dec.{eqb};
 ghost use lib.IntN.{pos, natAbs, _+ℤ_, _-ℤ_};
+ghost use lib.ListN.{length};
 ghost use mathlib.Core.Bool.{true, cond};
 ghost use mathlib.Core.Path.{_≡_};
 
@@ -74,12 +76,19 @@ impl Candidate {
     }
 }
 
-// What all who want earn, with one more of them.
-fn with_share(cost: i64, share: u32) -> i64
-    requires { ⌜ natAbs cost ≤ 64000 ⌝ ∗ ⌜ share ≤ 1000 ⌝ }
-    ensures { λ r. ⌜ r ≡ cost +ℤ pos share ⌝ }
+// Who does not want earns nothing.
+fn earned(share: u32, want: u8) -> i64
+    ensures { λ r. ⌜ r ≡ pos (cond (eqb want 1) share 0) ⌝ }
 {
-    cost + i64::from(share)
+    if want == 1 { i64::from(share) } else { 0 }
+}
+
+// What the guests so far earn together, with one guest more.
+fn with_earned(cost: i64, share: u32, want: u8) -> i64
+    requires { ⌜ natAbs cost ≤ 64000 ⌝ ∗ ⌜ share ≤ 1000 ⌝ }
+    ensures { λ r. ⌜ r ≡ cost +ℤ pos (cond (eqb want 1) share 0) ⌝ }
+{
+    cost + earned(share, want)
 }
 
 fn decide(shares: &[u32], wants: &[u8], owed: &[i64]) -> Turn
@@ -99,8 +108,8 @@ fn decide(shares: &[u32], wants: &[u8], owed: &[i64]) -> Turn
             if candidate.beats(best) {
                 best = Some(candidate);
             }
-            cost = with_share(cost, *share);
         }
+        cost = with_earned(cost, *share, *want);
     }
     Turn {
         runner: best.unwrap().guest,
@@ -108,11 +117,12 @@ fn decide(shares: &[u32], wants: &[u8], owed: &[i64]) -> Turn
     }
 }
 
-// Who does not want earns nothing.
-fn earned(share: u32, want: u8) -> i64
-    ensures { λ r. ⌜ r ≡ pos (cond (eqb want 1) share 0) ⌝ }
+// What a guest earns in a slice.
+fn earned_by(guest: usize, shares: &[u32], wants: &[u8]) -> i64
+    requires { ⌜ guest < length (now shares) ⌝ ∗ ⌜ guest < length (now wants) ⌝ }
+    ensures { λ r. ⌜ r ≡ pos (rule.earned (host-in (now (shares .entry))) (wants-in (now (wants .entry))) guest) ⌝ }
 {
-    if want == 1 { i64::from(share) } else { 0 }
+    earned(shares[guest], wants[guest])
 }
 
 impl Turn {
@@ -140,7 +150,7 @@ fn settle(turn: Turn, shares: &[u32], wants: &[u8], owed: &mut [i64])
     for (guest, amount) in owed.iter_mut().enumerate() {
         *amount = settled(
             *amount,
-            earned(shares[guest], wants[guest]),
+            earned_by(guest, shares, wants),
             turn.paid_by(guest),
         );
     }

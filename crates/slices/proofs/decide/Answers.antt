@@ -14,7 +14,7 @@ use Rattle.slices.proofs.Beside.{beside-turn, beside-end}
 use Rattle.slices.proofs.Deciding.{so-far-asleep, so-far-takes, so-far-keeps, so-far-some, so-far-runner, candidate-is}
 use Rattle.slices.proofs.Ranges.{owed-most, claim-is, cost-most, cost-is}
 use Rattle.slices.proofs.decide.Needs as need
-use Rattle.slices.proofs.decide.Needs.{then-beats, else-beats}
+use Rattle.slices.proofs.decide.Needs.{then-want-eq1·then-beats, then-want-eq1·else-beats, else-want-eq1}
 
 pub new-candidate-requires : need.new-candidate-requires
 new-candidate-requires c κs =
@@ -25,8 +25,8 @@ new-candidate-requires c κs =
     let at = beside-turn ss ws os (c .loop-guest .guest-iterator) (c .next .last .self) (c .loop-guest .inv .2) (c .in-Some .ensures tt .steps) in
     (owed-most ss ws os t (enumerate-count (c .loop-guest .guest-iterator)) (at .within) _ (at .owed), rw (at .share) (t .share-most _ (at .within)))
 
-pub with-share-cost-requires : need.with-share-cost-requires
-with-share-cost-requires c κs =
+pub with-earned-cost-requires : need.with-earned-cost-requires
+with-earned-cost-requires c κs =
     let ss = c .args .shares .now in
     let ws = c .args .wants .now in
     let os = c .args .owed .now in
@@ -34,8 +34,8 @@ with-share-cost-requires c κs =
     let at = beside-turn ss ws os (c .loop-guest .guest-iterator) (c .next .last .self) (c .loop-guest .inv .2) (c .in-Some .ensures tt .steps) in
     (cost-most ss ws os t (enumerate-count (c .loop-guest .guest-iterator)) (at .within) _ (c .loop-guest .inv .3 .cost-is), rw (at .share) (t .share-most _ (at .within)))
 
-pub loop-guest-again-then-want-eq1 : need.loop-guest-again-then-want-eq1
-loop-guest-again-then-want-eq1 c =
+pub loop-guest-again : need.loop-guest-again
+loop-guest-again c =
     let ss = c .args .shares .now in
     let ws = c .args .wants .now in
     let os = c .args .owed .now in
@@ -43,33 +43,25 @@ loop-guest-again-then-want-eq1 c =
     let i = enumerate-count (c .loop-guest .guest-iterator) in
     let at = beside-turn ss ws os (c .loop-guest .guest-iterator) (c .next .last .self) (c .loop-guest .inv .2) (c .in-Some .ensures tt .steps) in
     let t = c .pre .ready in
-    let awake : wants-in ws i ≡ true = eq-eqb _ 1 (sym (at .want) ∙ c .if-want-eq1 .taken) in
-    let claims = c .new-candidate .ensures .claim ∙ claim-is ss ws os t i (at .within) _ (at .owed) _ (at .share) awake in
-    let pays = cost-is ss ws os t i (at .within) _ (c .loop-guest .inv .3 .cost-is) _ _ (at .share) (c .with-share-cost .ensures) in (
+    let pays = cost-is ss ws os t i (at .within) _ (c .loop-guest .inv .3 .cost-is) _ _ _ (at .share) (at .want) (c .with-earned-cost .ensures) in (
       search needs,
       search needs,
       at .rest,
-      elim (c .if-beats .came) [
-        | then-beats w ↦ so-far-takes (host-in ss) (wants-in ws) q i _ (at .next) _ _ (c .loop-guest .inv .3) _ _ pays awake
-            (w .best-is ∙ ap Some (candidate-is q (c .new-candidate .result) i (c .new-candidate .ensures .guest ∙ c .in-Some .ensures tt .steps .1) claims))
-            (sym (ap (λ z. takes-turn z (c .loop-guest .best)) claims) ∙ sym (c .beats .ensures) ∙ w .if-beats .taken)
-        | else-beats w ↦ so-far-keeps (host-in ss) (wants-in ws) q i _ (at .next) _ _ (c .loop-guest .inv .3) _ _ pays awake
+      elim (c .if-want-eq1 .came) [
+        | then-want-eq1·then-beats w ↦
+            let awake : wants-in ws i ≡ true = eq-eqb _ 1 (sym (at .want) ∙ w .if-want-eq1 .taken) in
+            let claims = w .new-candidate .ensures .claim ∙ claim-is ss ws os t i (at .within) _ (at .owed) _ (at .share) awake in
+            so-far-takes (host-in ss) (wants-in ws) q i _ (at .next) _ _ _ _ (c .loop-guest .inv .3) pays awake
+            (w .best-is ∙ ap Some (candidate-is q (w .new-candidate .result) i (w .new-candidate .ensures .guest ∙ c .in-Some .ensures tt .steps .1) claims))
+            (sym (ap (λ z. takes-turn z (c .loop-guest .best)) claims) ∙ sym (w .beats .ensures) ∙ w .if-beats .taken)
+        | then-want-eq1·else-beats w ↦
+            let awake : wants-in ws i ≡ true = eq-eqb _ 1 (sym (at .want) ∙ w .if-want-eq1 .taken) in
+            let claims = w .new-candidate .ensures .claim ∙ claim-is ss ws os t i (at .within) _ (at .owed) _ (at .share) awake in
+            so-far-keeps (host-in ss) (wants-in ws) q i _ (at .next) _ _ _ _ (c .loop-guest .inv .3) pays awake
             (w .best-is)
-            (sym (ap (λ z. takes-turn z (c .loop-guest .best)) claims) ∙ sym (c .beats .ensures) ∙ w .if-beats .left)
+            (sym (ap (λ z. takes-turn z (c .loop-guest .best)) claims) ∙ sym (w .beats .ensures) ∙ w .if-beats .left)
+        | else-want-eq1 w ↦ so-far-asleep (host-in ss) (wants-in ws) q i _ (at .next) _ _ _ _ (c .loop-guest .inv .3) pays (w .best-is) (ne-eqb _ 1 (λ e. w .if-want-eq1 .left (at .want ∙ e)))
       ],
-    )
-
-pub loop-guest-again : need.loop-guest-again
-loop-guest-again c =
-    let ss = c .args .shares .now in
-    let ws = c .args .wants .now in
-    let os = c .args .owed .now in
-    let at = beside-turn ss ws os (c .loop-guest .guest-iterator) (c .next .last .self) (c .loop-guest .inv .2) (c .in-Some .ensures tt .steps) in (
-      search needs,
-      search needs,
-      at .rest,
-      so-far-asleep (host-in ss) (wants-in ws) _ (enumerate-count (c .loop-guest .guest-iterator)) _ (at .next) _ _ (c .loop-guest .inv .3)
-          (ne-eqb _ 1 (λ e. c .if-want-eq1 .left (at .want ∙ e))),
     )
 
 pub unwrap-requires : need.unwrap-requires

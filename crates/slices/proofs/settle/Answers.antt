@@ -18,8 +18,8 @@ settled-requires c κs =
     let here = c .loop-guest .inv .above i (omega arith) in (
       owed-most ss ws os t i h _ here,
       (
-        earned-read-most ss ws os t i h (eqb i (c .args .turn .runner)) _ _ _ _ here (c .earned .ensures) (c .pre .turn .1) (c .paid-by .ensures),
-        paid-read-most ss ws os t i h (eqb i (c .args .turn .runner)) _ _ _ _ here (c .earned .ensures) (c .pre .turn .1) (c .paid-by .ensures),
+        earned-read-most ss ws os t i h (eqb i (c .args .turn .runner)) _ _ _ _ here (c .earned-by .ensures) (c .pre .turn .1) (c .paid-by .ensures),
+        paid-read-most ss ws os t i h (eqb i (c .args .turn .runner)) _ _ _ _ here (c .earned-by .ensures) (c .pre .turn .1) (c .paid-by .ensures),
       ),
     )
 
@@ -33,5 +33,5 @@ loop-guest-again c =
     let h : i < length ss = omega (arith, t .owed-long) in
     let here = c .loop-guest .inv .above i (omega arith) in
     settled-more ss ws os i (c .loop-guest .owed) _ (c .loop-guest .inv) (c .loop-guest-test .taken)
-    (settled-is ss ws os t i h (eqb i (c .args .turn .runner)) _ _ _ _ here (c .earned .ensures) (c .pre .turn .1) (c .paid-by .ensures) _ (c .settled .ensures)
+    (settled-is ss ws os t i h (eqb i (c .args .turn .runner)) _ _ _ _ here (c .earned-by .ensures) (c .pre .turn .1) (c .paid-by .ensures) _ (c .settled .ensures)
     ∙ after-is ss ws os i (c .args .turn .runner) (c .args .turn .cost) (c .pre .turn .0) (c .pre .turn .1))
