@@ -1,11 +1,11 @@
 -- Nobody is ever owed, or owes, more than half of the bound, whatever is wanted in each slice.
 use mathlib.Core.Logic.{inl, inr}
 use mathlib.Core.Path.{_≡_, ap}
-use Prim.Native.Nat.{ℕ, zero, suc, _+_, _*_, _-_, _<_, _≤_, max}
+use Prim.Native.Nat.{ℕ, zero, suc, _+_, _*_, _-_, _<_, _≤_}
 use native.Mathlib.Nat.{mul-le-mul-left}
 use native.Mathlib.Omega.{arith}
 use Rattle.std.proofs.shelf.Tests.{cases-eq}
-use Rattle.guests.specs.Guests.{Host, Owed, Valid, Wants, sum-below, total}
+use Rattle.guests.specs.Guests.{Host, Valid, Wants, sum-below, total}
 use Rattle.guests.proofs.Sums.{sum-below-part}
 use Rattle.bounds.specs.Promises.{Below-the-limit, Bounded, Bounded-together, Comes-to-nothing, bound, greatest-below, two-greatest-below}
 use Rattle.bounds.specs.Runs.{nothing-owed, owed-at}
@@ -41,23 +41,17 @@ two-greatest-below-sum : (n : ℕ) (f : ℕ → ℕ) → two-greatest-below n f 
 two-greatest-below-sum zero f = omega arith
 two-greatest-below-sum (suc n) f = omega (arith, two-greatest-below-sum n f, greatest-below-sum n f)
 
-module _ (h : Host) (ws : ℕ → Wants) (t : ℕ) where
-  abbrev owed : Owed
-  owed = owed-at h ws nothing-owed t
-
-  abbrev c : ℕ
-  c = two-greatest-below (h .guests) (h .share)
-
-  spread : Spread (h .guests) c (above owed) (below owed)
-  spread = spread-at h ws nothing-owed c (two-greatest-below-most (h .guests) (h .share)) (spread-of-nothing (h .guests) c) t
+spread-from-nothing : (h : Host) (ws : ℕ → Wants) (t : ℕ) → let o = owed-at h ws nothing-owed t in Spread (h .guests) (two-greatest-below (h .guests) (h .share)) (above o) (below o)
+spread-from-nothing h ws =
+    spread-at h ws nothing-owed _ (two-greatest-below-most (h .guests) (h .share)) (spread-of-nothing (h .guests) _)
 
 pub bounded-together : Bounded-together
 unfolding Bounded-together Comes-to-nothing
-bounded-together h ws t = together-from-spread (h .guests) _ (comes-to-nothing h ws t) _ (spread h ws t)
+bounded-together h ws t = together-from-spread (h .guests) _ (comes-to-nothing h ws t) _ (spread-from-nothing h ws t)
 
 pub bounded : Bounded
 unfolding Bounded Comes-to-nothing
-bounded h ws t = most-from-spread (h .guests) _ (comes-to-nothing h ws t) _ (spread h ws t)
+bounded h ws t = most-from-spread (h .guests) _ (comes-to-nothing h ws t) _ (spread-from-nothing h ws t)
 
 below-product : (m c s : ℕ) → c ≤ s → 1 ≤ s → m * c < s * (m + 1)
 below-product m c s le some = omega (arith, mul-le-mul-left m le)

@@ -2,12 +2,12 @@
 use Rattle.bounds.specs.Promises.{Kept}
 use Rattle.bounds.proofs.Absent as absent
 use Rattle.bounds.proofs.Attained as attained
-use Rattle.bounds.proofs.Awake as awake
 use Rattle.bounds.proofs.Balance as balance
 use Rattle.bounds.proofs.Bound as bound
 use Rattle.bounds.proofs.Everybody as everybody
 use Rattle.bounds.proofs.Parts as parts
 use Rattle.bounds.proofs.Refusals as refusals
+use Rattle.bounds.proofs.Serving as serving
 
 pub kept : Kept
 kept = record {
@@ -16,10 +16,11 @@ kept = record {
   bounded = bound.bounded;
   attained = attained.attained;
   below-the-limit = bound.below-the-limit;
-  its-share = awake.its-share;
-  its-share-to-the-limit = awake.its-share-to-the-limit;
-  waits = awake.waits;
-  waits-to-the-limit = awake.waits-to-the-limit;
+  served = serving.served;
+  its-share = serving.its-share;
+  its-share-to-the-limit = serving.its-share-to-the-limit;
+  waits = serving.waits;
+  waits-to-the-limit = serving.waits-to-the-limit;
   harmonic = everybody.harmonic;
   all-the-while = everybody.all-the-while;
   in-parts = parts.in-parts;

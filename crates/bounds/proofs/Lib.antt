@@ -1,7 +1,6 @@
 pub mod Absent
 pub mod Agree
 pub mod Attained
-pub mod Awake
 pub mod Balance
 pub mod Bound
 pub mod Earning
@@ -10,6 +9,7 @@ pub mod Kept
 pub mod Parts
 pub mod Refusals
 pub mod Runner
+pub mod Serving
 pub mod Spreading
 pub mod Tables
 pub mod Three

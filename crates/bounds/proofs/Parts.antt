@@ -5,7 +5,7 @@ use Prim.Native.Nat.{ℕ, zero, suc, _+_, _<_}
 use native.Mathlib.Nat.{add-suc, add-zero}
 use native.Mathlib.Omega.{arith}
 use lib.Dec.{ltb}
-use Rattle.std.proofs.shelf.Tests.{cond-true, cond-false, le-ltb, lt-ltb}
+use Rattle.std.proofs.shelf.Tests.{le-ltb, lt-ltb}
 use Rattle.guests.specs.Guests.{Agree, Host, Wants, Owed}
 use Rattle.bounds.specs.Promises.{In-parts}
 use Rattle.bounds.specs.Rule.{runner, after-slice}

@@ -12,7 +12,7 @@ use Rattle.std.specs.declared.option.Option.the-variants.{None}
 use Rattle.guests.specs.Faults.{shares-fault, owed-fault}
 use Rattle.guests.specs.Guests.{Agree, Host, Wants, Owed, Valid, host-in, owed-in, total, sum-below, sumℤ-below}
 use Rattle.bounds.specs.Rule.{wanting}
-use Rattle.bounds.specs.Runs.{nothing-owed, owed-at, runner-at, ran}
+use Rattle.bounds.specs.Runs.{nothing-owed, owed-at, runner-at, ran, earned-in, paid-in}
 
 -- the greatest of f 0 .. f (n - 1)
 abbrev pub greatest-below : ℕ → (ℕ → ℕ) → ℕ
@@ -82,7 +82,12 @@ unfoldable pub Below-the-limit : Type 0
 Below-the-limit =
     (h : Host) (ws : ℕ → Wants) (t g : ℕ) → Valid h → g < h .guests → natAbs (owed-at h ws nothing-owed t g) < total h * h .guests
 
--- HOW FAR OFF. A guest that wants all through a stretch in which the others want the same in each slice gets its share of it: so many slices times its share, and how often it ran times the shares of those who want, are within the bound.
+-- HOW FAR OFF. In any stretch, whatever anybody wants in each slice of it, what a guest earns and what it pays for its turns are within the bound.
+unfoldable pub Served : Type 0
+Served =
+    (h : Host) (ws : ℕ → Wants) (g a k : ℕ) → g < h .guests → Within (bound h) (earned-in h ws g a k) (paid-in h ws nothing-owed g a k)
+
+-- So a guest that wants all through a stretch in which the others want the same in each slice gets its share of it: so many slices times its share, and how often it ran times the shares of those who want, are within the bound.
 unfoldable pub Its-share : Type 0
 Its-share =
     (h : Host) (ws : ℕ → Wants) (w : Wants) (g a k : ℕ) → g < h .guests → w g ≡ true → Steady ws w (h .guests) a k → Within (bound h) (k * h .share g) (ran h ws nothing-owed g a k * wanting h w)
@@ -149,6 +154,7 @@ pub record Kept : Type 0 where
   pub bounded : Bounded
   pub attained : Attained
   pub below-the-limit : Below-the-limit
+  pub served : Served
   pub its-share : Its-share
   pub its-share-to-the-limit : Its-share-to-the-limit
   pub waits : Waits

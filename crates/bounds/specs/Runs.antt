@@ -3,8 +3,8 @@ use mathlib.Core.Bool.{cond}
 use Prim.Native.Nat.{ℕ, zero, suc, _+_}
 use lib.IntN.{pos}
 use Rattle.std.specs.declared.option.Option.{Option}
-use Rattle.guests.specs.Guests.{Host, Wants, Owed}
-use Rattle.bounds.specs.Rule.{runner, is-runner, after-slice}
+use Rattle.guests.specs.Guests.{Host, Wants, Owed, sum-below}
+use Rattle.bounds.specs.Rule.{earned, runner, is-runner, paid, after-slice}
 
 abbrev pub nothing-owed : Owed
 nothing-owed g = pos 0
@@ -22,3 +22,10 @@ runner-at h ws o t = runner h (ws t) (owed-at h ws o t)
 abbrev pub ran : Host → (ℕ → Wants) → Owed → ℕ → (a k : ℕ) → ℕ
 ran h ws o g a zero = 0
 ran h ws o g a (suc k) = ran h ws o g a k + cond (is-runner (runner-at h ws o (a + k)) g) 1 0
+
+-- what guest g earns, and what it pays for its turns, in those slices
+abbrev pub earned-in : Host → (ℕ → Wants) → ℕ → (a k : ℕ) → ℕ
+earned-in h ws g a k = sum-below k (λ t. earned h (ws (a + t)) g)
+
+abbrev pub paid-in : Host → (ℕ → Wants) → Owed → ℕ → (a k : ℕ) → ℕ
+paid-in h ws o g a k = sum-below k (λ t. paid h (ws (a + t)) (owed-at h ws o (a + t)) g)

@@ -10,10 +10,9 @@ use Rattle.bounds.specs.Runs.{owed-at}
 use Rattle.bounds.proofs.Bound.{bounded}
 use Rattle.bounds.proofs.Parts.{and-then, owed-and-then}
 use Rattle.bounds.proofs.Refusals.{never-refused}
-use Rattle.guests.specs.Faults.{fault, or-else, owed-fault, shares-fault, wants-fault}
-use Rattle.guests.specs.Guests.{Agree, host-in, wants-in, owed-in, total}
+use Rattle.guests.specs.Faults.{or-else, shares-fault, wants-fault}
+use Rattle.guests.specs.Guests.{Agree, host-in, wants-in, owed-in}
 use Rattle.guests.specs.declared.faults.Fault.{Fault}
-use Rattle.slices.specs.Answers.{Settles}
 use Rattle.slices.specs.Calls.{Carries-on, From-nothing}
 use Rattle.std.specs.declared.option.Option.{Option}
 use Rattle.std.specs.declared.option.Option.the-variants.{Some, None}
