@@ -63,6 +63,11 @@ unfoldable pub Bounded : Type 0
 Bounded =
     (h : Host) (ws : ℕ → Wants) (t g : ℕ) → g < h .guests → 2 * natAbs (owed-at h ws nothing-owed t g) ≤ bound h
 
+-- so it is never as much as all shares together times how many guests there are
+unfoldable pub Below-the-limit : Type 0
+Below-the-limit =
+    (h : Host) (ws : ℕ → Wants) (t g : ℕ) → Valid h → g < h .guests → natAbs (owed-at h ws nothing-owed t g) < total h * h .guests
+
 -- n guests with the same share s
 abbrev pub equals : (n s : ℕ) → Host
 equals n s = record { guests = n; share = λ g. s }
@@ -71,16 +76,11 @@ equals n s = record { guests = n; share = λ g. s }
 abbrev pub one-less-each-time : ℕ → Wants
 one-less-each-time t g = leb t g
 
--- The bound is reached: after as many slices as there are guests but one, the last guest is owed half of it, and the first owes as much.
+-- No smaller number can be promised. With equal shares it is reached, for every number of guests: after as many slices as there are guests but one, the last guest is owed half of it, and the first owes as much.
 unfoldable pub Attained : Type 0
 Attained =
     (n s : ℕ) → let o = owed-at (equals (suc n) s) one-less-each-time nothing-owed n in
     (o n ≡ pos (n * s)) × (o 0 ≡ negℤ (pos (n * s))) × (bound (equals (suc n) s) ≡ 2 * (n * s))
-
--- so it is never as much as all shares together times how many guests there are
-unfoldable pub Below-the-limit : Type 0
-Below-the-limit =
-    (h : Host) (ws : ℕ → Wants) (t g : ℕ) → Valid h → g < h .guests → natAbs (owed-at h ws nothing-owed t g) < total h * h .guests
 
 -- HOW FAR OFF. In any stretch, whatever anybody wants in each slice of it, what a guest earns and what it pays for its turns are within the bound.
 unfoldable pub Served : Type 0
@@ -115,11 +115,6 @@ unfoldable pub All-the-while : Type 0
 All-the-while =
     (h : Host) (ws : ℕ → Wants) (t g : ℕ) → Valid h → g < h .guests → All-awake ws (h .guests) → (owed-at h ws nothing-owed t g <ℤ pos (4 * total h)) × (negℤ (pos (total h)) <ℤ owed-at h ws nothing-owed t g)
 
--- Slices that are asked for in two parts are the same slices: the second part goes on from what is owed after the first.
-unfoldable pub In-parts : Type 0
-In-parts =
-    (h : Host) (ws : ℕ → Wants) (o : Owed) (a k : ℕ) → (owed-at h ws o (a + k) ≡ owed-at h (λ u. ws (a + u)) (owed-at h ws o a) k) × (runner-at h ws o (a + k) ≡ runner-at h (λ u. ws (a + u)) (owed-at h ws o a) k)
-
 -- Who sleeps is owed afterwards what it was owed before.
 unfoldable pub Sleeps-free : Type 0
 Sleeps-free =
@@ -142,18 +137,23 @@ unfoldable pub Unnoticed-asleep : Type 0
 Unnoticed-asleep =
     (h : Host) (ws : ℕ → Wants) (o : Owed) (g a k t : ℕ) → g < h .guests → Asleep ws g a k → t < k → runner-at h ws o (a + t) ≡ mapped (past g) (runner-at (without g h) (λ u j. ws (a + u) (past g j)) (λ j. owed-at h ws o a (past g j)) t)
 
+-- Slices that are asked for in two parts are the same slices: the second part goes on from what is owed after the first.
+unfoldable pub In-parts : Type 0
+In-parts =
+    (h : Host) (ws : ℕ → Wants) (o : Owed) (a k : ℕ) → (owed-at h ws o (a + k) ≡ owed-at h (λ u. ws (a + u)) (owed-at h ws o a) k) × (runner-at h ws o (a + k) ≡ runner-at h (λ u. ws (a + u)) (owed-at h ws o a) k)
+
 -- What comes of slices from nothing owed is never refused as an amount.
 unfoldable pub Never-refused : Type 0
 Never-refused =
     (ss : List ℕ) (ws : ℕ → Wants) (t : ℕ) (os : List ℤ) → shares-fault ss ≡ None → length os ≡ length ss → Agree (length ss) (owed-in os) (owed-at (host-in ss) ws nothing-owed t) → owed-fault (length ss) (total (host-in ss)) os ≡ None
 
--- All of it is proved.
+-- all of them
 pub record Kept : Type 0 where
   pub comes-to-nothing : Comes-to-nothing
   pub bounded-together : Bounded-together
   pub bounded : Bounded
-  pub attained : Attained
   pub below-the-limit : Below-the-limit
+  pub attained : Attained
   pub served : Served
   pub its-share : Its-share
   pub its-share-to-the-limit : Its-share-to-the-limit
@@ -161,8 +161,8 @@ pub record Kept : Type 0 where
   pub waits-to-the-limit : Waits-to-the-limit
   pub harmonic : Harmonic
   pub all-the-while : All-the-while
-  pub in-parts : In-parts
   pub sleeps-free : Sleeps-free
   pub unnoticed : Unnoticed
   pub unnoticed-asleep : Unnoticed-asleep
+  pub in-parts : In-parts
   pub never-refused : Never-refused

@@ -4,6 +4,8 @@
 // lowest, and pays the shares of all who want. A guest that does not want neither earns nor pays: it is owed afterwards
 // what it was owed before. What is earned is what is paid, so what is owed comes to nothing, all together, as before.
 // Lists past a limit are refused by a number, and nothing of them is changed.
+// Whoever begins with nothing owed and calls for slices since is never refused for what is owed, and nobody is ever owed,
+// or owes, more than half of the bound, whatever is wanted in each slice.
 ghost use Prim.Native.Nat.{_<_, _≤_};
 ghost use Rattle.bounds.specs.Examples.{Turns-of-three, turns-of-three};
 ghost use Rattle.bounds.specs.Laws.{Slice-laws};
