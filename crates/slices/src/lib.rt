@@ -4,13 +4,13 @@
 // lowest, and pays the shares of all who want. A guest that does not want neither earns nor pays: it is owed afterwards
 // what it was owed before. What is earned is what is paid, so what is owed comes to nothing, all together, as before.
 // Lists past a limit are refused by a number, and nothing of them is changed.
+//
 // Whoever begins with nothing owed and calls for slices since is never refused for what is owed, and nobody is ever owed,
 // or owes, more than half of the bound, whatever is wanted in each slice.
 ghost use Prim.Native.Nat.{_<_, _≤_};
 ghost use Rattle.bounds.specs.Examples.{Turns-of-three, turns-of-three};
 ghost use Rattle.bounds.specs.Laws.{Slice-laws};
-ghost use Rattle.bounds.specs.Rule as rule;
-ghost use Rattle.bounds.specs.Rule.{runner};
+ghost use Rattle.bounds.specs.Rule.{earned, runner};
 ghost use Rattle.guests.specs.Faults.{Checks, fault};
 ghost use Rattle.guests.specs.Guests.{host-in, wants-in, owed-in, wants-bits};
 ghost use Rattle.slices.specs.Answers.{Settles, Slice-keeps, Slice-says, answer};
@@ -122,7 +122,7 @@ fn decide(shares: &[u32], wants: &[u8], owed: &[i64]) -> Turn
 // What a guest earns in a slice.
 fn earned_by(guest: usize, shares: &[u32], wants: &[u8]) -> i64
     requires { ⌜ guest < length (now shares) ⌝ ∗ ⌜ guest < length (now wants) ⌝ }
-    ensures { λ r. ⌜ r ≡ pos (rule.earned (host-in (now (shares .entry))) (wants-in (now (wants .entry))) guest) ⌝ }
+    ensures { λ r. ⌜ r ≡ pos (earned (host-in (now (shares .entry))) (wants-in (now (wants .entry))) guest) ⌝ }
 {
     earned(shares[guest], wants[guest])
 }
