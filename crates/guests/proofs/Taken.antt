@@ -23,6 +23,9 @@ share-ok-least s e = leb-true 1 s (and-parts (leb 1 s) (leb s 1000) e .0)
 pub share-ok-most : (s : ℕ) → share-ok s ≡ true → s ≤ 1000
 share-ok-most s e = leb-true s 1000 (and-parts (leb 1 s) (leb s 1000) e .1)
 
+natAbs-zero : (z : ℤ) → natAbs z ≡ 0 → z ≡ pos 0
+natAbs-zero z none = omega (arith, ints)
+
 pub record Taken (ss ws : List ℕ) (os : List ℤ) : Type 0 where
   pub host : Valid (host-in ss)
   pub wants-long : length ws ≡ length ss
@@ -54,7 +57,6 @@ module _ (ss ws : List ℕ) (os : List ℤ) where
       let each-want = each-from-first-failing want-ok WantAboveOne ws 0 (wants .1) in
       let each-owed = each-from-first-failing (amount-ok _) OwedOutOfRange os (pos 0) (range .0) in
       let wants-long : length ws ≡ length ss = eqb-true _ _ (fault-unless-none _ _ (wants .0)) in
-      let sum-none : natAbs (sumℤ-below (length ss) (owed-in os)) ≡ 0 = eqb-true _ _ (fault-unless-none _ _ (range .1)) in
       let owed-long : length os ≡ length ss = eqb-true _ _ (fault-unless-none _ _ (owed .0)) in
       record {
         host = valid-shares ss (shares .0);
@@ -62,7 +64,7 @@ module _ (ss ws : List ℕ) (os : List ℤ) where
         want-most = λ g h. leb-true _ _ (each-want g (rw wants-long h));
         owed-long = owed-long;
         owed-most = λ g h. ltb-true _ _ (each-owed g (rw owed-long h));
-        owed-sum = omega (arith, ints, sum-none);
+        owed-sum = natAbs-zero _ (eqb-true _ _ (fault-unless-none _ _ (range .1)));
       }
 
 -- the numbers that arithmetic rests on
