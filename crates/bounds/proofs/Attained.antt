@@ -13,7 +13,7 @@ use Rattle.std.specs.declared.option.Option.{Option}
 use Rattle.std.specs.declared.option.Option.the-variants.{Some, None}
 use Rattle.guests.specs.Guests.{Host, Wants, Owed, sum-below}
 use Rattle.bounds.specs.Laws.{Chosen}
-use Rattle.bounds.specs.Promises.{Attained, bound, equals, greatest-below, one-less-each-time, two-greatest-below}
+use Rattle.bounds.specs.Promises.{Attained, bound, equal-shares, greatest-below, one-less-each-time, two-greatest-below}
 use Rattle.bounds.specs.Rule.{earned, claim}
 use Rattle.bounds.specs.Runs.{nothing-owed, owed-at, runner-at}
 use Rattle.bounds.proofs.Earning.{after-asleep, chosen-is, earned-awake}
@@ -32,13 +32,13 @@ two-greatest-of-equals : (n s : ℕ) → two-greatest-below (suc (suc n)) (λ _.
 two-greatest-of-equals zero s = omega arith
 two-greatest-of-equals (suc n) s = omega (arith, two-greatest-of-equals n s, greatest-of-equals n s)
 
-bound-of-equals : (n s : ℕ) → bound (equals (suc n) s) ≡ 2 * (n * s)
+bound-of-equals : (n s : ℕ) → bound (equal-shares (suc n) s) ≡ 2 * (n * s)
 bound-of-equals zero s = omega arith
 bound-of-equals (suc n) s = rw (two-greatest-of-equals n s, sub-one) (omega arith)
 
 module _ (n s : ℕ) where
   abbrev host : Host
-  host = equals (suc n) s
+  host = equal-shares (suc n) s
 
   abbrev owed : ℕ → Owed
   owed = owed-at host one-less-each-time nothing-owed

@@ -69,18 +69,18 @@ Below-the-limit =
     (h : Host) (ws : ℕ → Wants) (t g : ℕ) → Valid h → g < h .guests → natAbs (owed-at h ws nothing-owed t g) < total h * h .guests
 
 -- n guests with the same share s
-abbrev pub equals : (n s : ℕ) → Host
-equals n s = record { guests = n; share = λ g. s }
+abbrev pub equal-shares : (n s : ℕ) → Host
+equal-shares n s = record { guests = n; share = λ g. s }
 
 -- guest g wants in the first g + 1 slices and then sleeps: in slice t all want but the lowest t
 abbrev pub one-less-each-time : ℕ → Wants
 one-less-each-time t g = leb t g
 
--- No smaller number can be promised. With equal shares it is reached, for every number of guests: after as many slices as there are guests but one, the last guest is owed half of it, and the first owes as much.
+-- With equal shares the bound is reached, for every number of guests: after as many slices as there are guests but one, the last guest is owed half of it, and the first owes as much.
 unfoldable pub Attained : Type 0
 Attained =
-    (n s : ℕ) → let o = owed-at (equals (suc n) s) one-less-each-time nothing-owed n in
-    (o n ≡ pos (n * s)) × (o 0 ≡ negℤ (pos (n * s))) × (bound (equals (suc n) s) ≡ 2 * (n * s))
+    (n s : ℕ) → let o = owed-at (equal-shares (suc n) s) one-less-each-time nothing-owed n in
+    (o n ≡ pos (n * s)) × (o 0 ≡ negℤ (pos (n * s))) × (bound (equal-shares (suc n) s) ≡ 2 * (n * s))
 
 -- HOW FAR OFF. In any stretch, whatever anybody wants in each slice of it, what a guest earns and what it pays for its turns are within the bound.
 unfoldable pub Served : Type 0
@@ -92,6 +92,7 @@ unfoldable pub Its-share : Type 0
 Its-share =
     (h : Host) (ws : ℕ → Wants) (w : Wants) (g a k : ℕ) → g < h .guests → w g ≡ true → Steady ws w (h .guests) a k → Within (bound h) (k * h .share g) (ran h ws nothing-owed g a k * wanting h w)
 
+-- and so within twice all shares together times how many guests there are
 unfoldable pub Its-share-to-the-limit : Type 0
 Its-share-to-the-limit =
     (h : Host) (ws : ℕ → Wants) (w : Wants) (g a k : ℕ) → Valid h → g < h .guests → w g ≡ true → Steady ws w (h .guests) a k → Within (2 * (h .guests * total h)) (k * h .share g) (ran h ws nothing-owed g a k * wanting h w)
@@ -101,6 +102,7 @@ unfoldable pub Waits : Type 0
 Waits =
     (h : Host) (ws : ℕ → Wants) (g a k : ℕ) → g < h .guests → Awake ws g a k → bound h < k * h .share g → 1 ≤ ran h ws nothing-owed g a k
 
+-- and so in as many slices as twice all shares together times how many guests there are
 unfoldable pub Waits-to-the-limit : Type 0
 Waits-to-the-limit =
     (h : Host) (ws : ℕ → Wants) (g a k : ℕ) → Valid h → g < h .guests → Awake ws g a k → 2 * (h .guests * total h) ≤ k → 1 ≤ ran h ws nothing-owed g a k

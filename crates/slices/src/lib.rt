@@ -186,7 +186,8 @@ impl Done {
     }
 }
 
-// The checks, and what a slice relies on once they have passed.
+// The checks, and what a slice relies on once they have passed. Whatever they answer, a call that changes nothing carries
+// on what it was lent.
 fn checked(shares: &[u32], wants: &[u8], owed: &[i64]) -> Result<Runnable, Fault>
     ensures checks { λ r. ⌜ Checks (fault (now (shares .entry)) (now (wants .entry)) (now (owed .entry))) (λ w. (w .bits ≡ wants-bits (now (wants .entry))) × Ready (now (shares .entry)) (now (wants .entry)) (now (owed .entry))) r ⌝ }
     ensures carries { λ _. ⌜ Carries-on (now (shares .entry)) (now (owed .entry)) (now (owed .entry)) ⌝ }
