@@ -1,4 +1,6 @@
 // Hosts and their guests: the limits, who wants to run, and which lists are refused.
+#![tactic(auto)]
+
 mod checks;
 mod faults;
 mod plans;

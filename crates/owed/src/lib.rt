@@ -1,4 +1,6 @@
 // Who is owed anything, handed back as a part of a lent list of guests, and the order that such a list is in.
+#![tactic(auto)]
+
 ghost use Rattle.std.specs.Prelude.{◌≡◌, ℕ, ◌<◌, ◌≤◌, true, map, length, take, slice_set};
 ghost use Rattle.guests.specs.Guests.{owed_in};
 ghost use Rattle.owed.specs.Orders.{Ordered, before, each_there, in_order, order_fault, ranks_all};

@@ -7,6 +7,8 @@
 //
 // Whoever begins with nothing owed and calls for slices since is never refused for what is owed, and nobody is ever owed,
 // or owes, more than half of the bound, whatever is wanted in each slice.
+#![tactic(auto)]
+
 ghost use Rattle.std.specs.Prelude.{◌≡◌, ◌<◌, ◌≤◌, true, length, pos, ◌+ℤ◌, ◌-ℤ◌, is_some, if◌then◌else◌, nat_eq, unsigned_abs};
 ghost use Rattle.bounds.specs.Examples.{TurnsOfThree, turns_of_three};
 ghost use Rattle.bounds.specs.Laws.{SliceLaws};

@@ -1,4 +1,6 @@
 // The program: reads a text of guests and stretches, and prints whose turn each slice is.
+#![tactic(auto)]
+
 mod errors;
 mod lines;
 mod numbers;
