@@ -5,20 +5,20 @@ use Rattle.owed.proofs.count_owed.Goals as goal
 use Rattle.std.proofs.ByRecursion.{All-get_or}
 use Rattle.std.proofs.lemmas.Bool.{cases_eq}
 
-pub is-owed-requires : goal.is-owed-requires
-is-owed-requires c =
+pub is_owed-requires : goal.is_owed-requires
+is_owed-requires c =
     All-get_or (λ g. g < length c.args.owed.now) c.args.by.now c.loop-place.place 0 c.loop-place-test.true (guests_from_ranks c.args.owed.now c.args.by.now c.requires)
 
-pub returns-then-not-is-owed : goal.returns-then-not-is-owed
-returns-then-not-is-owed c =
+pub returns-then-not-is_owed : goal.returns-then-not-is_owed
+returns-then-not-is_owed c =
     let within = c.loop-place.auto.place-end in
-    let says = PartSays-Front c.args.owed.now c.args.by.now c.requires c.loop-place.place within c.loop-place.invariant (λ _. sym c.is_owed.ensures ∙ c.if-not-is-owed.true) in
+    let says = PartSays-Front c.args.owed.now c.args.by.now c.requires c.loop-place.place within c.loop-place.invariant (λ _. sym c.is_owed.ensures ∙ c.if-not-is_owed.true) in
     record { within = within; says = says; keeps = laws_from_says _ _ _ says }
 
 pub loop-place-preserved : goal.loop-place-preserved
 loop-place-preserved c k h =
     elim (cases_eq k c.loop-place.place) [
-      | inl here ↦ subst (λ i. is_owed c.args.owed.now (get_or c.args.by.now i 0) ≡ true) (sym here) (sym c.is_owed.ensures ∙ c.if-not-is-owed.false)
+      | inl here ↦ subst (λ i. is_owed c.args.owed.now (get_or c.args.by.now i 0) ≡ true) (sym here) (sym c.is_owed.ensures ∙ c.if-not-is_owed.false)
       | inr before ↦ c.loop-place.invariant k (omega arith)
     ]
 

@@ -9,7 +9,7 @@ use Rattle.std.specs.List.{AllByRecursion as All}
 pub loop-pair-init : goal.loop-pair-init
 loop-pair-init c =
     let by = c.args.by.now in
-    let e : windows_rest c.into-iter-pair-iterator.result ≡ by = search rules in (
+    let e : windows_rest c.into_iter-pair-iterator.result ≡ by = search rules in (
       search rules,
       tt,
       search rules,

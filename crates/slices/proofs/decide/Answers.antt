@@ -19,8 +19,8 @@ new-candidate-requires c =
     let at = beside_turn ss ws os c.loop-guest.guest-iterator c.next.new.self c.loop-guest.invariant.2 c.in-Some.ensures.steps in
     (owed_most ss ws os t (enumerate_count c.loop-guest.guest-iterator) at.within _ at.owed, rw at.share (t.share_most _ at.within))
 
-pub with-earned-cost-requires : goal.with-earned-cost-requires
-with-earned-cost-requires c =
+pub with_earned-cost-requires : goal.with_earned-cost-requires
+with_earned-cost-requires c =
     let ss = c.args.shares.now in
     let ws = c.args.wants.now in
     let os = c.args.owed.now in
@@ -37,7 +37,7 @@ loop-guest-preserved c =
     let i = enumerate_count c.loop-guest.guest-iterator in
     let at = beside_turn ss ws os c.loop-guest.guest-iterator c.next.new.self c.loop-guest.invariant.2 c.in-Some.ensures.steps in
     let t = c.requires.ready in
-    let pays = cost_is ss ws os t i at.within _ c.loop-guest.invariant.3.cost_is _ _ _ at.share at.want c.with-earned-cost.ensures in (
+    let pays = cost_is ss ws os t i at.within _ c.loop-guest.invariant.3.cost_is _ _ _ at.share at.want c.with_earned-cost.ensures in (
       search rules,
       search rules,
       at.rest,

@@ -14,8 +14,8 @@ settled-requires c =
     let here = c.loop-guest.invariant.above i (omega arith) in (
       owed_most ss ws os t i h _ here,
       (
-        earned_read_most ss ws os t i h (eqb i c.args.turn.runner) _ _ _ _ here c.earned-by.ensures c.requires.turn.1 c.paid-by.ensures,
-        paid_read_most ss ws os t i h (eqb i c.args.turn.runner) _ _ _ _ here c.earned-by.ensures c.requires.turn.1 c.paid-by.ensures,
+        earned_read_most ss ws os t i h (eqb i c.args.turn.runner) _ _ _ _ here c.earned_by.ensures c.requires.turn.1 c.paid_by.ensures,
+        paid_read_most ss ws os t i h (eqb i c.args.turn.runner) _ _ _ _ here c.earned_by.ensures c.requires.turn.1 c.paid_by.ensures,
       ),
     )
 
@@ -29,5 +29,5 @@ loop-guest-preserved c =
     let h : i < length ss = omega (arith, t.owed_long) in
     let here = c.loop-guest.invariant.above i (omega arith) in
     Settled_more ss ws os i c.loop-guest.owed _ c.loop-guest.invariant c.loop-guest-test.true
-    (settled_is ss ws os t i h (eqb i c.args.turn.runner) _ _ _ _ here c.earned-by.ensures c.requires.turn.1 c.paid-by.ensures _ c.settled.ensures
+    (settled_is ss ws os t i h (eqb i c.args.turn.runner) _ _ _ _ here c.earned_by.ensures c.requires.turn.1 c.paid_by.ensures _ c.settled.ensures
     ∙ after_slice_is ss ws os i c.args.turn.runner c.args.turn.cost c.requires.turn.0 c.requires.turn.1)

@@ -15,17 +15,17 @@ module _ (n : ℕ) (ss : List Stretch) (i : ℕ) (s : Stretch) (wants : List ℕ
       ∙ ap (λ (x : Stretch). or_else (wants_fault n (vec_items x.wants)) (stretches_fault n (drop (i + 1) ss))) (sym is)
       ∙ ap (λ r. or_else r (stretches_fault n (drop (i + 1) ss))) (ap (wants_fault n) (sym same) ∙ answers)
 
-pub returns-in-err-runnable : goal.returns-in-err-runnable
-returns-in-err-runnable c =
+pub returns-in_err-runnable : goal.returns-in_err-runnable
+returns-in_err-runnable c =
     let p = err_from_is_err_and c.from-residual.result c.from-residual.ensures.1 in
     rw (p.1, p.2)
     (c.loop-stretch.invariant
-    ∙ fault_from c.args.totals.guests c.args.stretches.now c.loop-stretch.stretch-index c.stretch-item.result c.deref.result.now _ c.loop-stretch-test.true c.stretch-item.is c.deref.ensures.value c.in-err-runnable.ensures)
+    ∙ fault_from c.args.totals.guests c.args.stretches.now c.loop-stretch.stretch-index c.stretch-item.result c.deref.result.now _ c.loop-stretch-test.true c.stretch-item.is c.deref.ensures.value c.in_err-runnable.ensures)
 
 pub loop-stretch-preserved : goal.loop-stretch-preserved
 loop-stretch-preserved c =
     c.loop-stretch.invariant
-    ∙ fault_from c.args.totals.guests c.args.stretches.now c.loop-stretch.stretch-index c.stretch-item.result c.deref.result.now _ c.loop-stretch-test.true c.stretch-item.is c.deref.ensures.value c.in-ok-runnable.ensures.0
+    ∙ fault_from c.args.totals.guests c.args.stretches.now c.loop-stretch.stretch-index c.stretch-item.result c.deref.result.now _ c.loop-stretch-test.true c.stretch-item.is c.deref.ensures.value c.in_ok-runnable.ensures.0
 
 pub returns : goal.returns
 returns c =
