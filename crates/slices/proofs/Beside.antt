@@ -1,5 +1,5 @@
 -- Shares, wants and what is owed, gone through side by side: what is left of each from the place on that the iterator has come to.
-use Rattle.std.proofs.Common.{◌≡◌, ℕ, ◌+◌, ◌^◌, ◌<◌, ◌≤◌, List, ◌∷◌, length, get_or, drop, ℤ, pos, Some, None, Option, sym, ap, ◌∙◌, arith, length-drop, Bor, MatchOption}
+use Rattle.std.proofs.Common.{◌≡◌, ℕ, ◌+◌, ◌^◌, ◌<◌, ◌≤◌, List, ◌∷◌, length, get_or, drop, ℤ, pos, None, inl, inr, sym, ap, ◌∙◌, arith, length-drop}
 use Rattle.std.proofs.iter.Yields.{fronts}
 use Rattle.std.proofs.lemmas.Iterator.{zips}
 use Rattle.std.proofs.lemmas.List.{drop_more}
@@ -61,12 +61,12 @@ module _ (ss ws : List ℕ) (os : List ℤ) (s t : SideBySide) where
 
   -- lists of one length end together
   pub beside_end : length ws ≡ length ss → length os ≡ length ss → Beside ss ws os s → zips (zips fronts fronts) fronts (enumerate_source s) None (enumerate_source t) → enumerate_count s ≡ length ss
-  beside_end ew eo b p = outer p.0 p.1 p.2
-    where
-      inner : (o : Option (Bor ℕ)) → fronts (zip_first (zip_first (enumerate_source s))) o (zip_first (zip_first (enumerate_source t))) → MatchOption o (zip_second (zip_first (enumerate_source t)) ≡ zip_second (zip_first (enumerate_source s))) (λ _. fronts (zip_second (zip_first (enumerate_source s))) None (zip_second (zip_first (enumerate_source t)))) → enumerate_count s ≡ length ss
-      inner None x y = omega (arith, x.0, ap length b.0, length-drop (enumerate_count s) ss, b.3)
-      inner (Some v) x y = omega (arith, y.0, ap length b.1, length-drop (enumerate_count s) ws, b.3)
-
-      outer : (o : Option (Bor ℕ × Bor ℕ)) → zips fronts fronts (zip_first (enumerate_source s)) o (zip_first (enumerate_source t)) → MatchOption o (zip_second (enumerate_source t) ≡ zip_second (enumerate_source s)) (λ _. fronts (zip_second (enumerate_source s)) None (zip_second (enumerate_source t))) → enumerate_count s ≡ length ss
-      outer None x y = inner x.0 x.1 x.2
-      outer (Some v) x y = omega (arith, y.0, ap length b.2, length-drop (enumerate_count s) os, b.3)
+  beside_end ew eo b p =
+      let i = enumerate_count s in
+      elim p [
+        | inl q ↦ elim (q.1) [
+          | inl r ↦ omega (arith, r.1.0, ap length b.0, length-drop i ss, b.3)
+          | inr r ↦ omega (arith, r.1.0, ap length b.1, length-drop i ws, b.3)
+        ]
+        | inr r ↦ omega (arith, r.1.0, ap length b.2, length-drop i os, b.3)
+      ]

@@ -46,15 +46,15 @@ loop-guest-preserved c =
             let awake : wants_in ws i ≡ true = eq-eqb _ 1 (sym at.want ∙ w.if-want-eq1.true) in
             let claims = w.new-candidate.ensures.claim ∙ claim_is ss ws os t i at.within _ at.owed _ at.share awake in
             SoFar_takes (host_in ss) (wants_in ws) q i _ at.next _ _ _ _ c.loop-guest.invariant.3 pays awake
-            (w.best_is ∙ ap Some (candidate_is q w.new-candidate.result i (w.new-candidate.ensures.guest ∙ c.in-Some.ensures.steps.1) claims))
+            (w.best-is ∙ ap Some (candidate_is q w.new-candidate.result i (w.new-candidate.ensures.guest ∙ c.in-Some.ensures.steps.1) claims))
             (sym (ap (λ z. takes_turn z c.loop-guest.best) claims) ∙ sym w.beats.ensures ∙ w.if-beats.true)
         | then-want-eq1+else-beats w ↦
             let awake : wants_in ws i ≡ true = eq-eqb _ 1 (sym at.want ∙ w.if-want-eq1.true) in
             let claims = w.new-candidate.ensures.claim ∙ claim_is ss ws os t i at.within _ at.owed _ at.share awake in
             SoFar_keeps (host_in ss) (wants_in ws) q i _ at.next _ _ _ _ c.loop-guest.invariant.3 pays awake
-            w.best_is
+            w.best-is
             (sym (ap (λ z. takes_turn z c.loop-guest.best) claims) ∙ sym w.beats.ensures ∙ w.if-beats.false)
-        | else-want-eq1 w ↦ SoFar_asleep (host_in ss) (wants_in ws) q i _ at.next _ _ _ _ c.loop-guest.invariant.3 pays w.best_is (ne_eqb _ 1 (λ e. w.if-want-eq1.false (at.want ∙ e)))
+        | else-want-eq1 w ↦ SoFar_asleep (host_in ss) (wants_in ws) q i _ at.next _ _ _ _ c.loop-guest.invariant.3 pays w.best-is (ne_eqb _ 1 (λ e. w.if-want-eq1.false (at.want ∙ e)))
       ],
     )
 
