@@ -155,7 +155,7 @@ fn put_in_order(owed: &[i64], by: &mut [u8])
     let mut room = [Standing::of(0, 0); Plan::MAX_GUESTS];
     let all = &mut room[..owed.len()];
     write_standings(owed, all);
-    all.sort();
+    all.sort_unstable();
     write_guests(all, by);
 }
 

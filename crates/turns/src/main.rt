@@ -71,7 +71,7 @@ fn asked(rt: &HostRuntime) -> io::Result<Task> {
     if args.next().is_some() {
         return Ok(Task::TooManyFiles);
     }
-    if file == "--help" {
+    if file.as_str() == "--help" {
         return Ok(Task::Help);
     }
     Ok(Task::Run(fs::read(rt, file)?))

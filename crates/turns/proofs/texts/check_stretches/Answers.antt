@@ -17,7 +17,7 @@ module _ (n : ℕ) (ss : List Stretch) (i : ℕ) (s : Stretch) (wants : List ℕ
 
 pub returns-in_err-runnable : goal.returns-in_err-runnable
 returns-in_err-runnable c =
-    let p = err_from_is_err_and c.from-residual.result c.from-residual.ensures.1 in
+    let p = err_from_is_err_and c.from_residual.result c.from_residual.ensures.1 in
     rw (p.1, p.2)
     (c.loop-stretch.invariant
     ∙ fault_from c.args.totals.guests c.args.stretches.now c.loop-stretch.stretch-index c.stretch-item.result c.deref.result.now _ c.loop-stretch-test.true c.stretch-item.is c.deref.ensures.value c.in_err-runnable.ensures)
