@@ -1,5 +1,5 @@
 -- The rule of one slice: each who wants earns its share; of those the one who is then owed most runs, and pays the shares of all who want. Assumes nothing: these are definitions.
-use Rattle.std.specs.Prelude.{ℕ, zero, suc, Bool, true, false, cond, ◌&&◌, ℤ, pos, ◌+ℤ◌, ◌-ℤ◌, Some, None, Option, ◌==◌, int_lt}
+use Rattle.std.specs.Prelude.{ℕ, zero, suc, Bool, true, false, cond, ◌&&◌, pos, ◌+ℤ◌, ◌-ℤ◌, Some, None, Option, ◌==◌, int_lt}
 use Rattle.guests.specs.Guests.{Host, Wants, Owed, sum_below}
 
 -- what a guest earns in a slice: who does not want earns nothing

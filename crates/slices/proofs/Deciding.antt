@@ -5,7 +5,7 @@ use Rattle.std.specs.Option.{option_map}
 use Rattle.guests.specs.Guests.{Host, Wants, Owed, sum_below}
 use Rattle.guests.proofs.Sums.{sum_below_more}
 use Rattle.slices.specs.Steps.{takes_turn}
-use Rattle.bounds.specs.Rule.{beats, claim, earned, runner_below}
+use Rattle.bounds.specs.Rule.{beats, earned, runner_below}
 use Rattle.slices.specs.declared.Candidate.{Candidate}
 use Rattle.bounds.proofs.Runner.{runner_below_more}
 

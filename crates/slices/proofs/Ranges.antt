@@ -1,5 +1,5 @@
 -- The numbers of a slice, of lists that are ready, as code reads them: to_z (of_z a) is a, and each is small.
-use Rattle.std.proofs.Common.{◌≡◌, ℕ, ◌+◌, ◌^◌, ◌<◌, ◌≤◌, Bool, true, cond, eqb, List, length, get_or, ℤ, pos, ◌+ℤ◌, ◌-ℤ◌, nat_abs, sym, ap, ◌∙◌, arith, w64, to_z, of_z}
+use Rattle.std.proofs.Common.{◌≡◌, ℕ, ◌^◌, ◌<◌, ◌≤◌, Bool, true, cond, eqb, List, length, get_or, ℤ, pos, ◌+ℤ◌, ◌-ℤ◌, nat_abs, sym, ap, ◌∙◌, arith, w64, to_z, of_z}
 use Rattle.std.proofs.lemmas.Bool.{cond_both}
 use Rattle.guests.specs.Guests.{host_in, wants_in, owed_in, sum_below}
 use Rattle.guests.proofs.Amounts.{unsigned_abs-add, unsigned_abs-sub, as_read}
