@@ -18,7 +18,7 @@ or_else (Some f) next = Some f
 abbrev pub fault_unless : Bool → Fault → Option Fault
 fault_unless ok f = cond ok None (Some f)
 
--- the fault at the first entry that fails the test: `leading` counts those that pass before it
+-- the fault at the first entry that fails the test: `prefix_len` counts those that pass before it
 abbrev pub first_failing : {X : Type 0} → (X → Bool) → (ℕ → Fault) → List X → Option Fault
 first_failing ok at xs = fault_unless (prefix_len ok xs == length xs) (at (prefix_len ok xs))
 
