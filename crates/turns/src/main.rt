@@ -11,6 +11,7 @@ mod texts;
 
 use errors::Error;
 use std::io::{BufWriter, Read};
+use std::process::ExitCode;
 use std::{env, fs, io};
 use texts::Text;
 
@@ -38,12 +39,13 @@ enum Task {
     TooManyFiles,
 }
 
-fn main(rt: HostRuntime) -> Result<(), Error> {
-    let done = turns(&rt);
-    if let Err(error) = &done {
+// What stops the program is said in one line of its own, so main answers a status and not the error.
+fn main(rt: HostRuntime) -> Result<ExitCode, Error> {
+    if let Err(error) = turns(&rt) {
         eprintln!(rt; "{error}")?;
+        return Ok(ExitCode::FAILURE);
     }
-    done
+    Ok(ExitCode::SUCCESS)
 }
 
 fn turns(rt: &HostRuntime) -> Result<(), Error> {
