@@ -5,8 +5,8 @@ use Rattle.guests.specs.Guests.{owed_in}
 use Rattle.owed.specs.Orders.{before, each_there, in_order, ranks_all}
 use Rattle.owed.specs.Parts.{Front, PartLaws, PartSays, is_owed}
 use Rattle.owed.proofs.Order.{before_from_in_order, before_irrefl, nothing_after_nothing}
-use Rattle.owed.proofs.There.{among_from_each_there, guests_from_each_there, place_from_among}
-use Rattle.std.specs.List.{ContainsAt as Has, AllByRecursion as All}
+use Rattle.owed.proofs.There.{guests_from_each_there, place_from_each_there}
+use Rattle.std.specs.List.{All, Contains}
 use Rattle.std.proofs.lemmas.List.{get_or_default, get_or_past, get_or-take, length-take, length-take-le}
 use Rattle.std.proofs.lemmas.Bool.{and_parts, both_ways, cases_Bool, cases_eq, cases_lt, eqb-true, le-ltb, leb-true, lt-ltb, ltb-true}
 use Rattle.std.proofs.lemmas.Bool.Decides.{when_false, when_true}
@@ -75,14 +75,14 @@ module _ (os : List ℤ) (by part : List ℕ) where
     owed_in_part : (i : ℕ) → i < length part → is_owed os (get_or by i 0) ≡ true
     owed_in_part i h = front.1 i (omega (arith, short)) ∙ lt-ltb i (length part) h
 
-    in_part_owed : (g : ℕ) → Has part g → is_owed os g ≡ true
-    in_part_owed g has = subst (λ k. is_owed os k ≡ true) (sym (place has.0 0 has.1) ∙ has.2 0) (owed_in_part has.0 has.1)
+    in_part_owed : (g : ℕ) → Contains part g → is_owed os g ≡ true
+    in_part_owed g has = subst (λ k. is_owed os k ≡ true) (sym (place has.0 g has.1) ∙ has.2) (owed_in_part has.0 has.1)
 
-    owed_has : (g : ℕ) → g < length os → is_owed os g ≡ true → Has part g
+    owed_has : (g : ℕ) → g < length os → is_owed os g ≡ true → Contains part g
     owed_has g h owed =
-        let p = place_from_among g by (among_from_each_there (length os) by (rank_parts os by ranks).2 g h) in
+        let p = place_from_each_there (length os) by (rank_parts os by ranks).2 g h in
         let inside : p.0 < length part = ltb-true p.0 (length part) (sym (front.1 p.0 p.1) ∙ subst (λ k. is_owed os k ≡ true) (sym p.2) owed) in
-        (p.0, inside, λ d. place p.0 d inside ∙ p.2)
+        (p.0, inside, place p.0 g inside ∙ p.2)
 
     ordered_in_part : (i j : ℕ) → i < j → j < length part → before (owed_in os) (get_or part i 0) (get_or part j 0) ≡ true
     ordered_in_part i j h k =

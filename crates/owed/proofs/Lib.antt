@@ -1,7 +1,6 @@
 pub mod Front
 pub mod Marks
 pub mod Order
-pub mod Shuffling
 pub mod Sorting
 pub mod There
 pub mod Writing

@@ -1,11 +1,11 @@
 -- Marks of the guests that are in a list, place by place, and that all are marked if each guest is there.
-use Rattle.std.proofs.Common.{◌≡◌, ℕ, zero, suc, ◌+◌, ◌<◌, ◌≤◌, Bool, true, false, not, ◌||◌, eqb, List, [], ◌∷◌, ◌++◌, length, get_or, take, set, replicate, Decides, sym, refl, ap, ◌∙◌, inl, inr, arith}
+use Rattle.std.proofs.Common.{◌≡◌, ℕ, ◌+◌, ◌<◌, ◌≤◌, Bool, true, false, not, ◌||◌, eqb, List, [], ◌∷◌, ◌++◌, length, get_or, take, set, replicate, Decides, sym, ap, ◌∙◌, inl, inr, arith}
 use Rattle.owed.specs.Orders.{among, each_there}
-use Rattle.owed.proofs.There.{among_from_each_there, each_there_from_among}
-use Rattle.std.specs.List.{ContainsAt as Has}
-use Rattle.std.proofs.lemmas.List.{get_or_default, get_or-replicate, length-replicate, get_or-set_same, get_or-set_other, get_or-take, length-set, length-take, take_all, take_more}
+use Rattle.owed.proofs.There.{Decides-among, Decides-each_there}
+use Rattle.std.specs.List.{Contains}
+use Rattle.std.proofs.lemmas.List.{get_or-replicate, length-replicate, get_or-set_same, get_or-set_other, get_or-take, length-set, length-take, take_all, take_more}
 use Rattle.std.proofs.lemmas.Bool.{both_ways, cases_Bool, cases_eq, eq-eqb, ne_eqb, or_right}
-use Rattle.std.proofs.lemmas.Bool.Decides.{same_from_decides, Decides-not}
+use Rattle.std.proofs.lemmas.Bool.Decides.{same_from_decides, Decides-like, Decides-not}
 
 -- each of m guests is marked if it is among the first i of the list
 pub record Marked (m : ℕ) (xs : List ℕ) (i : ℕ) (there : List Bool) : Type 0 where
@@ -30,21 +30,16 @@ Marked_more m xs i there k h = record {
 }
 
 -- where the test is whether one of n guests is not marked
-pub each_there_from_marks : (m n : ℕ) (xs : List ℕ) (i : ℕ) (there : List Bool) (missing : Bool) → n ≤ m → length xs ≤ i → Marked m xs i there → Decides missing (Has (take n there) false) → not missing ≡ each_there n xs
-each_there_from_marks m n xs i there true few end k d =
-    let p = d.0 refl in
-    let inside : p.0 < n = omega (arith, p.1, length-take n there) in
-    let absent : among p.0 xs ≡ false = sym (ap (among p.0) (take_all i xs end)) ∙ sym (k.marks p.0 (omega (arith, few, inside))) ∙ sym (get_or-take n there p.0 false inside) ∙ p.2 false in
-    elim (cases_Bool (each_there n xs)) [
-      | inl all ↦ absurd (both_ways (among p.0 xs) absent (among_from_each_there n xs all p.0 inside))
-      | inr some ↦ sym some
-    ]
-each_there_from_marks m n xs i there false few end k d =
-    sym (each_there_from_among n xs (λ g h.
-    elim (cases_Bool (among g xs)) [
-      | inl here ↦ here
-      | inr absent ↦ absurd (both_ways false refl (d.1 (g, omega (arith, length-take n there, k.long), λ e. get_or-take n there g e h ∙ get_or_default there g e false (omega (arith, few, k.long)) ∙ k.marks g (omega (arith, few)) ∙ ap (among g) (take_all i xs end) ∙ absent)))
-    ]))
+pub each_there_from_marks : (m n : ℕ) (xs : List ℕ) (i : ℕ) (there : List Bool) (missing : Bool) → n ≤ m → length xs ≤ i → Marked m xs i there → Decides missing (Contains (take n there) false) → not missing ≡ each_there n xs
+each_there_from_marks m n xs i there missing few end k d =
+    let long : length (take n there) ≡ n = omega (arith, length-take n there, k.long, few) in
+    let mark : (g : ℕ) → g < n → get_or (take n there) g false ≡ among g xs = λ g h. get_or-take n there g false h ∙ k.marks g (omega (arith, few)) ∙ ap (among g) (take_all i xs end) in
+    same_from_decides (not missing) (each_there n xs)
+    (Decides-like (not missing)
+    (λ none g h. elim (cases_Bool (among g xs)) [ inl here ↦ (Decides-among g xs).0 here | inr absent ↦ absurd (none (g, omega (arith, long), mark g h ∙ absent)) ])
+    (λ each c. both_ways (among c.0 xs) (sym (mark c.0 (omega (arith, long, c.1))) ∙ c.2) ((Decides-among c.0 xs).1 (each c.0 (omega (arith, long, c.1)))))
+    (Decides-not missing d))
+    (Decides-each_there n xs)
 
 pub Marked_none : (m : ℕ) (xs : List ℕ) → Marked m xs 0 (replicate m false)
 Marked_none m xs = record { long = length-replicate m false; marks = λ g h. get_or-replicate m g false false h }

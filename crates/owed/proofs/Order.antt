@@ -1,5 +1,5 @@
 -- The order of guests is strict, and in a list that is in order each guest comes before all that follow.
-use Rattle.std.proofs.Common.{◌≡◌, ℕ, zero, suc, ◌<◌, true, false, ◌&&◌, List, [], ◌∷◌, length, get_or, pos, refl, arith}
+use Rattle.std.proofs.Common.{◌≡◌, ℕ, zero, suc, ◌<◌, true, false, List, [], ◌∷◌, length, get_or, pos, refl, arith}
 use lib.Signed.{lt_z}
 use Rattle.guests.specs.Guests.{Owed}
 use Rattle.owed.specs.Orders.{before, in_order}

@@ -1,12 +1,12 @@
 // Who is owed anything, handed back as a part of a lent list of guests, and the order that such a list is in.
 #![tactic(auto)]
 
-ghost use Rattle.std.specs.Prelude.{◌≡◌, ℕ, ◌<◌, ◌≤◌, true, map, length, take, slice_set};
+ghost use Rattle.std.specs.Prelude.{◌≡◌, ℕ, ◌<◌, ◌≤◌, true, map, length, take, slice_set, All};
 ghost use Rattle.guests.specs.Guests.{owed_in};
 ghost use Rattle.owed.specs.Orders.{Ordered, before, each_there, in_order, order_fault, ranks_all};
 ghost use Rattle.owed.specs.Standings.{standing, standings};
 ghost use Rattle.owed.specs.Parts.{PartLaws, PartSays, is_owed};
-ghost use Rattle.std.specs.List.{range_with_len, AllByRecursion as All};
+ghost use Rattle.std.specs.List.{range_with_len};
 ghost use Rattle.std.specs.List.Sorted.{IsPermutation};
 
 use guests::Plan;
@@ -172,4 +172,35 @@ pub fn order_by_owed(owed: &[i64], by: &mut [u8]) -> Result<(), OrderFault>
     }
     put_in_order(owed, by);
     Ok(())
+}
+
+#[cfg(test)]
+mod tests {
+    use super::*;
+
+    #[test]
+    fn the_part_of_a_list_in_order(rt: HostRuntime) {
+        let owed = [-2, -1, 3];
+        assert_eq!(rt; who_is_owed(&owed, &[2, 1, 0]), &[2][..]);
+        assert_eq!(rt; who_is_owed(&owed, &[1, 2, 0]), &[][..]);
+    }
+
+    #[test]
+    fn of_equals_the_lowest_comes_first(rt: HostRuntime) {
+        let owed = [0, 5, -5, 0];
+        let mut by = [0; 4];
+        assert_eq!(rt; order_by_owed(&owed, &mut by), Ok(()));
+        assert_eq!(rt; by, [1, 0, 3, 2]);
+        assert_eq!(rt; who_is_owed(&owed, &by), &[1][..]);
+    }
+
+    #[test]
+    fn a_list_of_another_length_is_left_as_it_was(rt: HostRuntime) {
+        let mut by = [7, 7];
+        assert_eq!(rt;
+            order_by_owed(&[1, 0, -1], &mut by),
+            Err(OrderFault::OtherLength)
+        );
+        assert_eq!(rt; by, [7, 7]);
+    }
 }

@@ -1,13 +1,12 @@
-use Rattle.std.proofs.Common.{◌≡◌, ◌<◌, true, length, get_or, sym, refl, ◌∙◌, subst, inl, inr, arith}
+use Rattle.std.proofs.Common.{◌≡◌, true, length, get_or, sym, ◌∙◌, subst, inl, inr, arith}
 use Rattle.owed.specs.Parts.{is_owed}
 use Rattle.owed.proofs.Front.{guests_from_ranks, laws_from_says, PartSays-Front}
 use Rattle.owed.proofs.count_owed.Goals as goal
-use Rattle.std.proofs.ByRecursion.{All-get_or}
 use Rattle.std.proofs.lemmas.Bool.{cases_eq}
 
 pub is_owed-requires : goal.is_owed-requires
 is_owed-requires c =
-    All-get_or (λ g. g < length c.args.owed.now) c.args.by.now c.loop-place.place 0 c.loop-place-test.true (guests_from_ranks c.args.owed.now c.args.by.now c.requires)
+    guests_from_ranks c.args.owed.now c.args.by.now c.requires c.loop-place.place 0 c.loop-place-test.true
 
 pub returns-then-not-is_owed : goal.returns-then-not-is_owed
 returns-then-not-is_owed c =

@@ -1,9 +1,10 @@
-use Rattle.std.proofs.Common.{false, eqb, length, sym, refl, ◌∙◌, subst}
+use Rattle.std.proofs.Common.{false, length, sym, refl, ◌∙◌, subst}
 use Rattle.owed.proofs.Marks.{Marked, each_there_from_marks, Marked_more, Marked_none}
 use Rattle.owed.proofs.There.{guests_from_each_there}
 use Rattle.owed.proofs.each_there.Goals as goal
-use Rattle.std.proofs.lemmas.List.Elements.{contains_decides}
-use Rattle.std.proofs.lemmas.Bool.Decides.{Decides-eqb}
+use Rattle.std.proofs.lemmas.List.Elements.{contains_decides, Decides-contains}
+use Rattle.std.specs.Bool.{beq}
+use Rattle.std.specs.Cmp.{booleans_Decides}
 
 pub loop-guest-init : goal.loop-guest-init
 loop-guest-init c = Marked_none 64 c.args.by.now
@@ -16,5 +17,5 @@ pub returns : goal.returns
 returns c =
     let by = c.args.by.now in
     let there = each_there_from_marks 64 (length by) by c.loop-guest.guest-index c.loop-guest.there c.contains.result c.requires c.loop-guest-test.false c.loop-guest.invariant
-    (contains_decides eqb Decides-eqb _ false c.contains.result c.contains.ensures.cases) in
+    (Decides-contains _ false c.contains.result (contains_decides beq booleans_Decides _ false c.contains.result c.contains.ensures.cases)) in
     record { there = there; guests = λ e. guests_from_each_there (length by) by refl (sym there ∙ e) }

@@ -4,7 +4,7 @@ use Rattle.owed.specs.Orders.{in_order}
 use Rattle.owed.proofs.Order.{in_order_short}
 use Rattle.owed.proofs.in_order.Goals as goal
 use Rattle.std.specs.Slice.Iter.{windows_rest}
-use Rattle.std.specs.List.{AllByRecursion as All}
+use Rattle.std.specs.List.{All}
 
 pub loop-pair-init : goal.loop-pair-init
 loop-pair-init c =

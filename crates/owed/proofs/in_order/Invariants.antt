@@ -3,7 +3,7 @@ use Rattle.guests.specs.Guests.{owed_in}
 use Rattle.owed.specs.Orders.{in_order}
 use Rattle.owed.proofs.in_order.Given as goal
 use Rattle.std.specs.Slice.Iter.{windows_rest, windows_size}
-use Rattle.std.specs.List.{AllByRecursion as All}
+use Rattle.std.specs.List.{All}
 
 abbrev pub invariant-loop-pair : goal.invariant-loop-pair
 invariant-loop-pair l =

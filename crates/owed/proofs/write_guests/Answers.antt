@@ -1,4 +1,4 @@
-use Rattle.std.proofs.Common.{◌≡◌, map, length, get_or, sym, ◌∙◌, arith}
+use Rattle.std.proofs.Common.{sym, ◌∙◌, arith}
 use Rattle.owed.proofs.Writing.{Written_all, Written_more, Written_none}
 use Rattle.owed.proofs.write_guests.Goals as goal
 use Rattle.std.proofs.lemmas.List.{get_or-map, length-map}

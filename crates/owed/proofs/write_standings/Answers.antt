@@ -1,4 +1,4 @@
-use Rattle.std.proofs.Common.{◌≡◌, length, pos, sym, ap, ◌∙◌, arith, rules}
+use Rattle.std.proofs.Common.{length, pos, sym, ap, ◌∙◌, arith, rules}
 use Rattle.guests.specs.Guests.{owed_in}
 use Rattle.owed.specs.Standings.{standing, standings}
 use Rattle.owed.proofs.Writing.{Written_all, Written_more, Written_none}
