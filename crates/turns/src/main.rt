@@ -57,7 +57,8 @@ fn turns(rt: &HostRuntime) -> Result<(), Error> {
         Ok(Task::Run(text)) => {
             let heap = rt.alloc();
             let run = Text::read(heap, &text)?.checked(heap)?;
-            run.print(&mut BufWriter::new(heap, rt.stdout())?)
+            let mut out = BufWriter::new(heap, rt.stdout()).map_err(|_| Error::Memory)?;
+            run.print(&mut out)
         }
         Ok(Task::TooManyFiles) => Err(Error::TooManyFiles),
         Err(e) => Err(Error::Input(e)),
