@@ -1,5 +1,5 @@
 -- Sums of amounts that are far from the ends of 64 bits. An amount that code has read comes back as to_z (of_z x), which `as_read` removes.
-use Rattle.std.proofs.Common.{◌≡◌, ◌+◌, ◌^◌, ◌<◌, ◌≤◌, ℤ, pos, negsuc, ◌+ℤ◌, ◌-ℤ◌, nat_abs, ◌∙◌, arith, w64, SFits, to_z, of_z}
+use Rattle.std.proofs.Common.{◌≡◌, ◌+◌, ◌^◌, ◌<◌, ◌≤◌, ℤ, pos, negsuc, ◌+ℤ◌, ◌-ℤ◌, nat_abs, arith, w64, SFits, to_z, of_z}
 use borrow.Author.Differences.{abs_is}
 use lib.Signed.{mag}
 use Rattle.std.proofs.lemmas.Int.{ints, to_z-of_z}
@@ -19,11 +19,3 @@ fits_from_unsigned_abs z h = record { sfits = omega (arith, mag-le-unsigned_abs 
 
 pub as_read : (x : ℤ) → nat_abs x < 2 ^ 63 → to_z w64 (of_z w64 x) ≡ x
 as_read x h = to_z-of_z w64 x (fits_from_unsigned_abs x h)
-
--- a and b are read as x and y
-module _ (x y : ℤ) (small : nat_abs x + nat_abs y < 2 ^ 63) where
-  pub sum_fits : (a b : ℤ) → a ≡ x → b ≡ y → SFits w64 (a +ℤ b)
-  sum_fits a b e f = rw (e, f) (fits_from_unsigned_abs (x +ℤ y) (omega (arith, unsigned_abs-add x y)))
-
-  pub sum_is : (a b : ℤ) → a ≡ x → b ≡ y → to_z w64 (of_z w64 (a +ℤ b)) ≡ x +ℤ y
-  sum_is a b e f = to_z-of_z w64 (a +ℤ b) (sum_fits a b e f) ∙ cc

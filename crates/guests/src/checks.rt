@@ -19,47 +19,44 @@ pub fn check(shares: &[u32], wants: &[u8], owed: &[i64]) -> Result<Runnable, Fau
 #[cfg(test)]
 mod tests {
     use super::check;
+    use crate::faults::Refusal;
 
-    const TAKEN: (u64, u64) = (0, 0);
+    fn refusal(shares: &[u32], wants: &[u8], owed: &[i64]) -> Option<Refusal> {
+        check(shares, wants, owed).err().map(Refusal::from)
+    }
 
-    fn refused(shares: &[u32], wants: &[u8], owed: &[i64]) -> (u64, u64) {
-        match check(shares, wants, owed) {
-            Ok(_) => TAKEN,
-            Err(fault) => {
-                let refusal = fault.refusal();
-                (refusal.number, refusal.place)
-            }
-        }
+    fn by(number: u64, place: u64) -> Option<Refusal> {
+        Some(Refusal { number, place })
     }
 
     #[test]
     fn shares_at_their_edges(rt: HostRuntime) {
-        assert_eq!(rt; refused(&[], &[2], &[1]), (1, 0));
-        assert_eq!(rt; refused(&[1; 65], &[1; 65], &[0; 65]), (1, 64));
-        assert_eq!(rt; refused(&[1; 64], &[1; 64], &[0; 64]), TAKEN);
-        assert_eq!(rt; refused(&[1, 0], &[2, 2], &[1, 1]), (1, 1));
-        assert_eq!(rt; refused(&[1001, 0], &[0, 0], &[0, 0]), (1, 0));
-        assert_eq!(rt; refused(&[1, 1000], &[0, 1], &[0, 0]), TAKEN);
+        assert_eq!(rt; refusal(&[], &[2], &[1]), by(1, 0));
+        assert_eq!(rt; refusal(&[1; 65], &[1; 65], &[0; 65]), by(1, 64));
+        assert_eq!(rt; refusal(&[1; 64], &[1; 64], &[0; 64]), None);
+        assert_eq!(rt; refusal(&[1, 0], &[2, 2], &[1, 1]), by(1, 1));
+        assert_eq!(rt; refusal(&[1001, 0], &[0, 0], &[0, 0]), by(1, 0));
+        assert_eq!(rt; refusal(&[1, 1000], &[0, 1], &[0, 0]), None);
     }
 
     #[test]
     fn wants_at_their_edges(rt: HostRuntime) {
-        assert_eq!(rt; refused(&[1, 1], &[1], &[9, 9]), (2, 1));
-        assert_eq!(rt; refused(&[1, 1], &[1, 1, 1], &[0, 0]), (2, 2));
-        assert_eq!(rt; refused(&[1, 1], &[0, 2], &[0, 0]), (2, 1));
-        assert_eq!(rt; refused(&[1, 1], &[255, 1], &[0, 0]), (2, 0));
+        assert_eq!(rt; refusal(&[1, 1], &[1], &[9, 9]), by(2, 1));
+        assert_eq!(rt; refusal(&[1, 1], &[1, 1, 1], &[0, 0]), by(2, 2));
+        assert_eq!(rt; refusal(&[1, 1], &[0, 2], &[0, 0]), by(2, 1));
+        assert_eq!(rt; refusal(&[1, 1], &[255, 1], &[0, 0]), by(2, 0));
     }
 
     // Shares 1 and 2: nobody is owed, or owes, 6.
     #[test]
     fn owed_at_its_edges(rt: HostRuntime) {
-        assert_eq!(rt; refused(&[1, 2], &[1, 1], &[0]), (3, 1));
-        assert_eq!(rt; refused(&[1, 2], &[1, 1], &[0, 0, 0]), (3, 2));
-        assert_eq!(rt; refused(&[1, 2], &[1, 1], &[6, -6]), (3, 0));
-        assert_eq!(rt; refused(&[1, 2], &[1, 1], &[5, -5]), TAKEN);
-        assert_eq!(rt; refused(&[1, 2], &[1, 1], &[5, -6]), (3, 1));
-        assert_eq!(rt; refused(&[1, 2], &[1, 1], &[1, 0]), (3, 64));
-        assert_eq!(rt; refused(&[1, 2], &[1, 1], &[0, i64::MIN]), (3, 1));
-        assert_eq!(rt; refused(&[1, 2], &[1, 1], &[i64::MAX, i64::MIN]), (3, 0));
+        assert_eq!(rt; refusal(&[1, 2], &[1, 1], &[0]), by(3, 1));
+        assert_eq!(rt; refusal(&[1, 2], &[1, 1], &[0, 0, 0]), by(3, 2));
+        assert_eq!(rt; refusal(&[1, 2], &[1, 1], &[6, -6]), by(3, 0));
+        assert_eq!(rt; refusal(&[1, 2], &[1, 1], &[5, -5]), None);
+        assert_eq!(rt; refusal(&[1, 2], &[1, 1], &[5, -6]), by(3, 1));
+        assert_eq!(rt; refusal(&[1, 2], &[1, 1], &[1, 0]), by(3, 64));
+        assert_eq!(rt; refusal(&[1, 2], &[1, 1], &[0, i64::MIN]), by(3, 1));
+        assert_eq!(rt; refusal(&[1, 2], &[1, 1], &[i64::MAX, i64::MIN]), by(3, 0));
     }
 }
