@@ -1,5 +1,5 @@
 -- What it says that checks find no fault: of one after the other, and of a list's entries.
-use Rattle.std.proofs.Common.{◌≡◌, ℕ, Bool, true, not, List, Some, None, Option, refl, arith}
+use Rattle.std.proofs.Common.{◌≡◌, ◌<◌, ℕ, Bool, true, not, List, length, get_or, Some, None, Option, refl, arith}
 use Rattle.std.specs.Option.{option_map, option_or}
 use Rattle.std.specs.List.{All, position, position_or_len}
 use Rattle.std.proofs.lemmas.List.Sums.{fails_before_first, passes_at_first}
@@ -16,8 +16,8 @@ each_from_position ok xs e k x h = grind (arith, nat_tests, fails_before_first (
 
 -- a list has no fault exactly where each entry passes
 module _ {X : Type 0} (ok : X → Bool) (at : ℕ → Fault) (xs : List X) where
-  pub first_failing_each : (d : X) → All (λ x. ok x ≡ true) xs → first_failing ok at xs ≡ None
-  first_failing_each d each = grind (arith, nat_tests, passes_at_first (λ x. not (ok x)) xs d, each (position_or_len (λ x. not (ok x)) xs) d)
+  pub first_failing_each : (d : X) → ((k : ℕ) → k < length xs → ok (get_or xs k d) ≡ true) → first_failing ok at xs ≡ None
+  first_failing_each d each = grind (arith, nat_tests, passes_at_first (λ x. not (ok x)) xs d, each (position_or_len (λ x. not (ok x)) xs))
 
   pub each_from_first_failing : first_failing ok at xs ≡ None → All (λ x. ok x ≡ true) xs
   each_from_first_failing e = each_from_position ok xs (option_map_none at (position (λ x. not (ok x)) xs) e)
