@@ -1,5 +1,6 @@
 -- What holds of three lists that are taken: the checks found no fault.
 use Rattle.std.proofs.Common.{◌≡◌, ℕ, ◌*◌, ◌<◌, ◌≤◌, true, List, length, get_or, ℤ, pos, nat_abs, None, arith}
+use Rattle.std.proofs.lemmas.Nat.{mul-le}
 use Rattle.std.proofs.lemmas.Int.{ints}
 use Rattle.std.proofs.lemmas.Bool.Decides.{nat_tests}
 use Rattle.std.specs.List.{All}
@@ -28,6 +29,10 @@ Valid-host_in ss e =
 
 pub total_most : (h : Host) → Valid h → total h ≤ 64000
 total_most h v = omega (arith, sum_below-le h.guests 1000 h.share v.share_most, v.few)
+
+-- what anybody can be owed at most
+pub limit_most : (h : Host) → Valid h → total h * h.guests ≤ 4096000
+limit_most h v = mul-le (total h) h.guests 64000 64 (total_most h v) v.few
 
 pub taken : (ss ws : List ℕ) (os : List ℤ) → fault ss ws os ≡ None → Taken ss ws os
 taken ss ws os e =

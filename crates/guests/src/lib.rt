@@ -4,11 +4,11 @@
 mod checks;
 mod faults;
 mod plans;
-mod totals;
+mod shares;
 mod wanting;
 
 pub use checks::check;
 pub use faults::{Fault, Refusal};
 pub use plans::Plan;
-pub use totals::Totals;
+pub use shares::Shares;
 pub use wanting::Runnable;
