@@ -4,12 +4,14 @@ use lib.Signed.{lt_z}
 use Rattle.guests.specs.Guests.{owed_in}
 use Rattle.owed.specs.Orders.{before, each_there, in_order, ranks_all}
 use Rattle.owed.specs.Parts.{Front, PartLaws, PartSays, is_owed}
-use Rattle.owed.proofs.Order.{before_from_in_order, before_irrefl, nothing_after_nothing}
-use Rattle.owed.proofs.There.{guests_from_each_there, place_from_each_there}
-use Rattle.std.specs.List.{All, Contains}
+use Rattle.owed.proofs.Order.{before_from_in_order, before_irrefl, owed_before_owed}
+use Rattle.owed.proofs.There.{Decides-each_there}
+use Rattle.std.specs.List.{Contains}
+use Rattle.std.specs.List.Sorted.{IsPartitionPoint, IsPartitionedBy}
 use Rattle.std.proofs.lemmas.List.{get_or_default, get_or_past, get_or-take, length-take, length-take-le}
-use Rattle.std.proofs.lemmas.Bool.{and_parts, both_ways, cases_Bool, cases_eq, cases_lt, eqb-true, le-ltb, leb-true, lt-ltb, ltb-true}
+use Rattle.std.proofs.lemmas.Bool.{and_parts, both_ways, cases_Bool, cases_eq, cases_lt, eqb-true, le-ltb, lt-ltb, ltb-true}
 use Rattle.std.proofs.lemmas.Bool.Decides.{when_false, when_true}
+use Rattle.std.proofs.lemmas.Map.Views.{Contains-from_any}
 
 -- nobody past the list is owed anything
 owed_is_guest : (os : List ℤ) (g : ℕ) → is_owed os g ≡ true → g < length os
@@ -20,25 +22,22 @@ owed_is_guest os g owed =
     ]
 
 module _ (os : List ℤ) (by : List ℕ) (ranks : ranks_all os by ≡ true) where
-  pub rank_parts : (length os ≤ 64) × (length by ≡ length os) × (each_there (length os) by ≡ true) × (in_order (owed_in os) by ≡ true)
+  pub rank_parts : (length by ≡ length os) × (each_there (length os) by ≡ true) × (in_order (owed_in os) by ≡ true)
   rank_parts =
       let a = and_parts (leb (length os) 64) _ ranks in
       let b = and_parts (eqb (length by) (length os)) _ a.1 in
       let c = and_parts (each_there (length os) by) _ b.1 in
-      (leb-true (length os) 64 a.0, eqb-true (length by) (length os) b.0, c.0, c.1)
+      (eqb-true (length by) (length os) b.0, c.0, c.1)
 
-  pub guests_from_ranks : All (λ g. g < length os) by
-  guests_from_ranks = guests_from_each_there (length os) by rank_parts.1 rank_parts.2
+  pub IsPartitionedBy-ranks : IsPartitionedBy (is_owed os) by
+  IsPartitionedBy-ranks i j d h k owed =
+      elim (cases_eq i j) [
+        | inl same ↦ subst (λ m. is_owed os (get_or by m d) ≡ true) (sym same) owed
+        | inr other ↦ owed_before_owed (owed_in os) (get_or by i d) (get_or by j d) (before_from_in_order (owed_in os) by rank_parts.2 i j d (omega arith) k) owed
+      ]
 
-  -- so many places are owed anything, and the next, if there is one, is not
-  module _ (r : ℕ) (within : r ≤ length by) (owed : (k : ℕ) → k < r → is_owed os (get_or by k 0) ≡ true) (next : r < length by → is_owed os (get_or by r 0) ≡ false) where
-    not_owed_from : (i : ℕ) → r ≤ i → i < length by → is_owed os (get_or by i 0) ≡ false
-    not_owed_from i h l =
-        elim (cases_eq r i) [
-          | inl same ↦ subst (λ k. is_owed os (get_or by k 0) ≡ false) same (next (omega arith))
-          | inr other ↦ nothing_after_nothing (owed_in os) (get_or by r 0) (get_or by i 0) (before_from_in_order (owed_in os) by rank_parts.3 r i (omega arith) l) (next (omega arith))
-        ]
-
+  -- as many places as come before the first whose guest is owed nothing
+  module _ (r : ℕ) (within : r ≤ length by) (point : IsPartitionPoint (λ g. is_owed os g ≡ true) (λ g. is_owed os g ≡ false) by r) where
     long : length (take r by) ≡ r
     long = length-take-le r by within
 
@@ -46,8 +45,8 @@ module _ (os : List ℤ) (by : List ℕ) (ranks : ranks_all os by ≡ true) wher
     Front_is = (
       ap (λ k. take k by) (sym long),
       λ i l. elim (cases_lt i r) [
-        | inl below ↦ owed i below ∙ sym (lt-ltb i (length (take r by)) (omega (arith, long)))
-        | inr above ↦ not_owed_from i above l ∙ sym (le-ltb i (length (take r by)) (omega (arith, long)))
+        | inl below ↦ point.0 i 0 (omega arith) below ∙ sym (lt-ltb i (length (take r by)) (omega (arith, long)))
+        | inr above ↦ point.1 i 0 above l ∙ sym (le-ltb i (length (take r by)) (omega (arith, long)))
       ],
     )
 
@@ -80,14 +79,15 @@ module _ (os : List ℤ) (by part : List ℕ) where
 
     owed_has : (g : ℕ) → g < length os → is_owed os g ≡ true → Contains part g
     owed_has g h owed =
-        let p = place_from_each_there (length os) by (rank_parts os by ranks).2 g h in
-        let inside : p.0 < length part = ltb-true p.0 (length part) (sym (front.1 p.0 p.1) ∙ subst (λ k. is_owed os k ≡ true) (sym p.2) owed) in
-        (p.0, inside, place p.0 g inside ∙ p.2)
+        let p = Contains-from_any eqb-true g by ((Decides-each_there (length os) by).0 (rank_parts os by ranks).1 g h) in
+        let there : get_or by p.0 0 ≡ g = get_or_default by p.0 0 g p.1 ∙ p.2 in
+        let inside : p.0 < length part = ltb-true p.0 (length part) (sym (front.1 p.0 p.1) ∙ subst (λ k. is_owed os k ≡ true) (sym there) owed) in
+        (p.0, inside, place p.0 g inside ∙ there)
 
     ordered_in_part : (i j : ℕ) → i < j → j < length part → before (owed_in os) (get_or part i 0) (get_or part j 0) ≡ true
     ordered_in_part i j h k =
         ap (before (owed_in os) (get_or part i 0)) (place j 0 k) ∙ ap (λ g. before (owed_in os) g (get_or by j 0)) (place i 0 (omega arith))
-        ∙ before_from_in_order (owed_in os) by (rank_parts os by ranks).3 i j h (omega (arith, short))
+        ∙ before_from_in_order (owed_in os) by (rank_parts os by ranks).2 i j 0 h (omega (arith, short))
 
     laws_of_front : PartLaws os by part
     laws_of_front = record {

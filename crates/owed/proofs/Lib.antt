@@ -1,6 +1,4 @@
 pub mod Front
-pub mod Marks
 pub mod Order
-pub mod Sorting
+pub mod Ranks
 pub mod There
-pub mod Writing

@@ -1,11 +1,14 @@
--- The order of guests is strict, and in a list that is in order each guest comes before all that follow.
-use Rattle.std.proofs.Common.{◌≡◌, ℕ, zero, suc, ◌<◌, true, false, List, [], ◌∷◌, length, get_or, pos, refl, arith}
+-- The order of guests is strict, and in a list that is in order each guest comes before all that follow, so that none is there twice.
+use Rattle.std.proofs.Common.{◌≡◌, ℕ, zero, suc, ◌<◌, ◌+◌, Bool, true, false, eqb, List, [], ◌∷◌, length, get_or, pos, refl, sym, subst, inl, inr, arith, add-one}
 use lib.Signed.{lt_z}
 use Rattle.guests.specs.Guests.{Owed}
 use Rattle.owed.specs.Orders.{before, in_order}
+use Rattle.std.specs.List.{IsAllAdjacentAnswer, IsDistinct}
 use Rattle.std.proofs.lemmas.Int.{ints}
-use Rattle.std.proofs.lemmas.Bool.{and_from, and_parts}
-use Rattle.std.proofs.lemmas.Bool.Decides.{nat_tests}
+use Rattle.std.proofs.lemmas.Bool.{and_from, and_parts, both_ways, cases_Bool, ne_eqb}
+use Rattle.std.proofs.lemmas.Bool.Decides.{nat_tests, when_false, when_true}
+use Rattle.std.proofs.lemmas.List.{get_or_default}
+use Rattle.std.proofs.lemmas.Map.Keys.{IsDistinct-from_apart}
 
 module _ (o : Owed) where
   pub before_trans : (a b c : ℕ) → before o a b ≡ true → before o b c ≡ true → before o a c ≡ true
@@ -14,27 +17,37 @@ module _ (o : Owed) where
   pub before_irrefl : (a : ℕ) → before o a a ≡ true → ⊥
   before_irrefl a h = grind (arith, ints, nat_tests)
 
-  pub nothing_after_nothing : (a b : ℕ) → before o a b ≡ true → lt_z (pos 0) (o a) ≡ false → lt_z (pos 0) (o b) ≡ false
-  nothing_after_nothing a b h none = grind (arith, ints, nat_tests)
+  pub before_apart : (a b : ℕ) → before o a b ≡ true → eqb a b ≡ false
+  before_apart a b h = grind (arith, ints, nat_tests)
 
-  pub in_order_short : (gs : List ℕ) → length gs < 2 → in_order o gs ≡ true
-  in_order_short [] h = refl
-  in_order_short (a ∷ []) h = refl
-  in_order_short (a ∷ (b ∷ gs)) h = absurd (omega arith)
+  pub owed_before_owed : (a b : ℕ) → before o a b ≡ true → lt_z (pos 0) (o b) ≡ true → lt_z (pos 0) (o a) ≡ true
+  owed_before_owed a b h owed = grind (arith, ints, nat_tests)
 
-  pub before_from_in_order : (gs : List ℕ) → in_order o gs ≡ true → (i j : ℕ) → i < j → j < length gs → before o (get_or gs i 0) (get_or gs j 0) ≡ true
-  before_from_in_order [] e i j h k = absurd (omega arith)
-  before_from_in_order (a ∷ []) e i j h k = absurd (omega arith)
-  before_from_in_order (a ∷ (b ∷ gs)) e i zero h k = absurd (omega arith)
-  before_from_in_order (a ∷ (b ∷ gs)) e zero (suc zero) h k = (and_parts (before o a b) (in_order o (b ∷ gs)) e).0
-  before_from_in_order (a ∷ (b ∷ gs)) e zero (suc (suc j)) h k =
+  pub before_from_in_order : (gs : List ℕ) → in_order o gs ≡ true → (i j d : ℕ) → i < j → j < length gs → before o (get_or gs i d) (get_or gs j d) ≡ true
+  before_from_in_order [] e i j d h k = absurd (omega arith)
+  before_from_in_order (a ∷ []) e i j d h k = absurd (omega arith)
+  before_from_in_order (a ∷ (b ∷ gs)) e i zero d h k = absurd (omega arith)
+  before_from_in_order (a ∷ (b ∷ gs)) e zero (suc zero) d h k = (and_parts (before o a b) (in_order o (b ∷ gs)) e).0
+  before_from_in_order (a ∷ (b ∷ gs)) e zero (suc (suc j)) d h k =
       let parts = and_parts (before o a b) (in_order o (b ∷ gs)) e in
-      before_trans a b (get_or gs j 0) parts.0 (before_from_in_order (b ∷ gs) parts.1 zero (suc j) (omega arith) (omega arith))
-  before_from_in_order (a ∷ (b ∷ gs)) e (suc i) (suc j) h k =
-      before_from_in_order (b ∷ gs) (and_parts (before o a b) (in_order o (b ∷ gs)) e).1 i j (omega arith) (omega arith)
+      before_trans a b (get_or gs j d) parts.0 (before_from_in_order (b ∷ gs) parts.1 zero (suc j) d (omega arith) (omega arith))
+  before_from_in_order (a ∷ (b ∷ gs)) e (suc i) (suc j) d h k =
+      before_from_in_order (b ∷ gs) (and_parts (before o a b) (in_order o (b ∷ gs)) e).1 i j d (omega arith) (omega arith)
 
-  pub in_order_from_before : (gs : List ℕ) → ((k : ℕ) → suc k < length gs → before o (get_or gs k 0) (get_or gs (suc k) 0) ≡ true) → in_order o gs ≡ true
+  pub in_order_from_before : (gs : List ℕ) → ((k d : ℕ) → k + 1 < length gs → before o (get_or gs k d) (get_or gs (k + 1) d) ≡ true) → in_order o gs ≡ true
   in_order_from_before [] each = refl
   in_order_from_before (a ∷ []) each = refl
   in_order_from_before (a ∷ (b ∷ gs)) each =
-      and_from (before o a b) (in_order o (b ∷ gs)) (each 0 (omega arith)) (in_order_from_before (b ∷ gs) (λ k h. each (suc k) (omega arith)))
+      and_from (before o a b) (in_order o (b ∷ gs)) (each 0 0 (omega arith)) (in_order_from_before (b ∷ gs) (λ k d h. rw add-one (rw add-one at (each (suc k) d (omega arith)))))
+
+  pub IsDistinct-from_in_order : (gs : List ℕ) → in_order o gs ≡ true → IsDistinct eqb gs
+  IsDistinct-from_in_order gs ordered = IsDistinct-from_apart eqb gs (λ i j d h k. before_apart (get_or gs i d) (get_or gs j d) (before_from_in_order gs ordered i j d h k))
+
+  -- what `is_sorted_by` answers
+  pub is_in_order : (gs : List ℕ) (r : Bool) → IsAllAdjacentAnswer (λ x y b. b ≡ before o x y) gs r → r ≡ in_order o gs
+  is_in_order gs true each = sym (in_order_from_before gs (λ k d h. sym (each k d h)))
+  is_in_order gs false (k, h, not_before) =
+      elim (cases_Bool (in_order o gs)) [
+        | inl ordered ↦ absurd (both_ways _ (sym (not_before 0)) (before_from_in_order gs ordered k (k + 1) 0 (omega arith) h))
+        | inr not_ordered ↦ sym not_ordered
+      ]

@@ -1,55 +1,44 @@
--- Lists that have each guest below n: which guests are in a list, and that n places have each of them once and nobody else.
-use Rattle.std.proofs.Common.{◌≡◌, ◌≢◌, ℕ, ◌-◌, ◌<◌, true, eqb, List, length, get_or, Decides, sym, refl, ap, ◌∙◌, inl, inr, arith}
-use Rattle.owed.specs.Orders.{among, each_there}
-use Rattle.std.specs.List.{All, Contains, list_any, remove}
-use Rattle.std.proofs.lemmas.Bool.{cases_eq, cases_lt, eq-eqb}
-use Rattle.std.proofs.lemmas.Bool.Decides.{Decides-below_and, Decides-by_or, Decides-eqb, Decides-like}
-use Rattle.std.proofs.lemmas.List.{get_or_default}
-use Rattle.std.proofs.lemmas.List.Edits.{get_or-remove_above, get_or-remove_below, length-remove}
-use Rattle.std.proofs.lemmas.List.Elements.{Decides-contains}
-use Rattle.std.proofs.lemmas.List.Folds.{list_any_at}
-use Rattle.std.proofs.lemmas.Map.Steps.{le-length_from_below}
+-- Where no guest is in a list twice, and it has as many places as there are guests, each guest is there if and only if nobody else is.
+use Rattle.std.proofs.Common.{◌≡◌, ℕ, ◌<◌, ◌≤◌, Bool, true, cond, eqb, ltb, List, [], ◌∷◌, ◌++◌, length, Decides, refl, ◌∙◌, inl, inr, arith}
+use Rattle.owed.specs.Orders.{each_there}
+use Rattle.std.specs.Cmp.{nat_eq_equiv}
+use Rattle.std.specs.List.{IsDistinct, count_by, filter, list_all, list_any}
+use Rattle.std.proofs.lemmas.Bool.{cases_Bool, eqb-true, lt-ltb, ltb-true}
+use Rattle.std.proofs.lemmas.Bool.Decides.{Decides-below_and, same_from_decides, nat_tests}
+use Rattle.std.proofs.lemmas.List.{length-append}
+use Rattle.std.proofs.lemmas.List.Elements.{All-contains}
+use Rattle.std.proofs.lemmas.List.Folds.{list_any-append}
+use Rattle.std.proofs.lemmas.List.Sums.{AllPass-from_list_all, count_by-le-length, length-filter, sum_by-cons}
+use Rattle.std.proofs.lemmas.Map.Keys.{IsDistinct-push}
+use Rattle.std.proofs.lemmas.Map.Steps.{le-length_from_below, length-le_from_distinct_below}
+use Rattle.std.proofs.lemmas.Map.Views.{Contains-from_any, any-filter_same}
 
-pub Decides-among : (g : ℕ) (xs : List ℕ) → Decides (among g xs) (Contains xs g)
-Decides-among g xs = Decides-contains xs g (among g xs) (Decides-by_or (eqb g) (λ y. y ≡ g) (among g) (λ y. Decides-like (eqb g y) sym sym (Decides-eqb g y)) refl (λ _ _. refl) xs)
+pub Decides-each_there : (n : ℕ) (xs : List ℕ) → Decides (each_there n xs) ((g : ℕ) → g < n → list_any (eqb g) xs ≡ true)
+Decides-each_there n xs = Decides-below_and (λ g. list_any (eqb g) xs) (λ g. list_any (eqb g) xs ≡ true) (λ m. each_there m xs) (λ g. (λ e. e, λ e. e)) refl (λ _. refl) n
 
-pub Decides-each_there : (n : ℕ) (xs : List ℕ) → Decides (each_there n xs) ((g : ℕ) → g < n → Contains xs g)
-Decides-each_there n xs = Decides-below_and (λ g. among g xs) (Contains xs) (λ m. each_there m xs) (λ g. Decides-among g xs) refl (λ _. refl) n
+list_all-from_count : {X : Type 0} (p : X → Bool) (xs : List X) → length xs ≤ count_by p xs → list_all p xs ≡ true
+list_all-from_count p [] h = refl
+list_all-from_count p (x ∷ xs) h = grind (arith, count_by-le-length p xs, list_all-from_count p xs, sum_by-cons (λ y. cond (p y) 1 0) x xs)
 
-pub place_from_each_there : (n : ℕ) (xs : List ℕ) → each_there n xs ≡ true → (g : ℕ) → g < n → (i : ℕ) × (i < length xs) × (get_or xs i 0 ≡ g)
-place_from_each_there n xs there g h = let c = (Decides-each_there n xs).0 there g h in (c.0, c.1, get_or_default xs c.0 0 g c.1 ∙ c.2)
+module _ (n : ℕ) (xs : List ℕ) (long : length xs ≡ n) where
+  abbrev is_guest : ℕ → Bool
+  is_guest g = ltb g n
 
--- guest g is in a place other than j
-abbrev Elsewhere : List ℕ → (j g : ℕ) → Type 0
-Elsewhere xs j g = (i : ℕ) × (i < length xs) × (i ≢ j) × (get_or xs i 0 ≡ g)
+  only_from_each : ((g : ℕ) → g < n → list_any (eqb g) xs ≡ true) → list_all is_guest xs ≡ true
+  only_from_each each =
+      let kept = le-length_from_below (filter is_guest xs) n (λ g h. any-filter_same (eqb g) is_guest true (λ k same. lt-ltb k n (omega (arith, eqb-true g k same))) xs ∙ each g h) in
+      list_all-from_count is_guest xs (omega (arith, length-filter is_guest xs))
 
-there_without : (xs : List ℕ) (j g : ℕ) → j < length xs → Elsewhere xs j g → list_any (eqb g) (remove xs j) ≡ true
-there_without xs j g h p =
-    elim (cases_lt p.0 j) [
-      | inl below ↦ list_any_at (eqb g) (remove xs j) p.0 0 (omega (arith, length-remove xs j h)) (eq-eqb g _ (sym (get_or-remove_below xs j 0 p.0 below h ∙ p.3)))
-      | inr above ↦ list_any_at (eqb g) (remove xs j) (p.0 - 1) 0 (omega (arith, length-remove xs j h, p.1, p.2))
-          (eq-eqb g _ (sym (get_or-remove_above xs j 0 (p.0 - 1) (omega (arith, p.2)) h ∙ ap (λ k. get_or xs k 0) (omega (arith, p.2)) ∙ p.3)))
-    ]
+  guest_from_only : list_all is_guest xs ≡ true → (g : ℕ) → list_any (eqb g) xs ≡ true → g < n
+  guest_from_only only g here = ltb-true g n (All-contains (λ k. is_guest k ≡ true) xs g (AllPass-from_list_all is_guest xs only) (Contains-from_any eqb-true g xs here))
 
--- n places with each of n guests
-module _ (n : ℕ) (xs : List ℕ) (long : length xs ≡ n) (there : each_there n xs ≡ true) where
-  no_place_to_spare : (j : ℕ) → j < length xs → ((g : ℕ) → g < n → Elsewhere xs j g) → ⊥
-  no_place_to_spare j h each = omega (arith, long, length-remove xs j h, le-length_from_below (remove xs j) n (λ g l. there_without xs j g h (each g l)))
-
-  pub guests_from_each_there : All (λ g. g < n) xs
-  guests_from_each_there k d h =
-      elim (cases_lt (get_or xs k d) n) [
-        | inl guest ↦ guest
-        | inr nobody ↦ absurd (no_place_to_spare k h
-            (λ g l. let p = place_from_each_there n xs there g l in
-            (p.0, p.1, λ same. let e : get_or xs k d ≡ g = get_or_default xs k d 0 h ∙ ap (λ m. get_or xs m 0) (sym same) ∙ p.2 in omega arith, p.2)))
+  -- one more guest would be one too many
+  each_from_only : IsDistinct eqb xs → list_all is_guest xs ≡ true → (g : ℕ) → g < n → list_any (eqb g) xs ≡ true
+  each_from_only distinct only g h =
+      elim (cases_Bool (list_any (eqb g) xs)) [
+        | inl here ↦ here
+        | inr absent ↦ absurd (omega (arith, length-append xs (g ∷ []), length-le_from_distinct_below (xs ++ g ∷ []) n (IsDistinct-push nat_eq_equiv xs g distinct absent) (λ k e. grind (arith, nat_tests, list_any-append (eqb k) xs (g ∷ []), guest_from_only only k))))
       ]
 
-  pub differ_from_each_there : (i j : ℕ) → i < j → j < length xs → get_or xs i 0 ≢ get_or xs j 0
-  differ_from_each_there i j h k e =
-      no_place_to_spare j k
-      (λ g l. let p = place_from_each_there n xs there g l in
-      elim (cases_eq p.0 j) [
-        | inl same ↦ (i, omega arith, omega arith, e ∙ ap (λ m. get_or xs m 0) (sym same) ∙ p.2)
-        | inr other ↦ (p.0, p.1, other, p.2)
-      ])
+  pub each_there_as_only : IsDistinct eqb xs → each_there n xs ≡ list_all is_guest xs
+  each_there_as_only distinct = same_from_decides (each_there n xs) (list_all is_guest xs) (Decides-each_there n xs) (each_from_only distinct, only_from_each)

@@ -1,7 +1,7 @@
 -- The order of guests by what they are owed, which lists have all guests in it, and when a list is refused one. Assumes nothing: these are definitions.
-use Rattle.std.specs.Prelude.{◌≡◌, ℕ, zero, suc, Bool, true, false, cond, ◌&&◌, ◌||◌, List, [], ◌∷◌, length, ℤ, Some, None, Ok, Err, Option, Result, ◌==◌, int_le, int_lt, nat_le, nat_lt}
+use Rattle.std.specs.Prelude.{◌≡◌, ℕ, zero, suc, Bool, true, cond, ◌&&◌, ◌||◌, List, [], ◌∷◌, length, ℤ, Some, None, Ok, Err, Option, Result, ◌==◌, int_le, int_lt, nat_le, nat_lt}
 use Rattle.guests.specs.Guests.{Owed, owed_in}
-use Rattle.std.specs.List.{range_with_len}
+use Rattle.std.specs.List.{list_any, range_with_len}
 use Rattle.std.specs.List.Sorted.{IsPermutation}
 use Rattle.owed.specs.declared.OrderFault.{OrderFault}
 use Rattle.owed.specs.declared.OrderFault.TheVariants.{TooManyGuests, OtherLength}
@@ -16,14 +16,10 @@ in_order o [] = true
 in_order o (a ∷ []) = true
 in_order o (a ∷ (b ∷ gs)) = before o a b && in_order o (b ∷ gs)
 
-abbrev pub among : ℕ → List ℕ → Bool
-among g [] = false
-among g (x ∷ xs) = g == x || among g xs
-
 -- each guest below n is in a list
 abbrev pub each_there : ℕ → List ℕ → Bool
 each_there zero gs = true
-each_there (suc n) gs = among n gs && each_there n gs
+each_there (suc n) gs = list_any (λ g. n == g) gs && each_there n gs
 
 -- a list of all guests, at most 64, and of nobody else, in order
 abbrev pub ranks_all : List ℤ → List ℕ → Bool

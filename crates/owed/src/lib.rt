@@ -1,16 +1,17 @@
 // Who is owed anything, handed back as a part of a lent list of guests, and the order that such a list is in.
 #![tactic(auto)]
 
-ghost use Rattle.std.specs.Prelude.{◌≡◌, ℕ, ◌<◌, ◌≤◌, true, map, length, take, slice_set, All};
+ghost use Rattle.std.specs.Prelude.{◌≡◌, ◌≤◌, true, length, take, nat_lt};
 ghost use Rattle.guests.specs.Guests.{owed_in};
-ghost use Rattle.owed.specs.Orders.{Ordered, before, each_there, in_order, order_fault, ranks_all};
-ghost use Rattle.owed.specs.Standings.{standing, standings};
+ghost use Rattle.owed.specs.Orders.{Ordered, before, in_order, ranks_all};
 ghost use Rattle.owed.specs.Parts.{PartLaws, PartSays, is_owed};
-ghost use Rattle.std.specs.List.{range_with_len};
+ghost use Rattle.std.specs.List.{list_all, range_with_len};
 ghost use Rattle.std.specs.List.Sorted.{IsPermutation};
 
 use guests::Plan;
 use std::cmp::Reverse;
+use std::error::Error;
+use std::fmt;
 
 // Why guests can't be put in order in a list.
 #[derive(Clone, Copy, PartialEq, Eq, Debug)]
@@ -20,70 +21,67 @@ pub enum OrderFault {
     OtherLength,
 }
 
-// A guest with what it is owed. Of two the lesser comes first: who is owed more, and of equals the lower guest.
-#[derive(Clone, Copy, PartialEq, Eq, PartialOrd, Ord)]
-struct Standing {
-    owed: Reverse<i64>,
-    guest: u8,
+impl fmt::Display for OrderFault {
+    fn fmt<W: fmt::Write>(&self, f: &mut fmt::Formatter<W>) -> fmt::Result {
+        match self {
+            OrderFault::TooManyGuests => write!(f, "more than {} guests", Plan::MAX_GUESTS),
+            OrderFault::OtherLength => write!(f, "the list has not one place for each guest"),
+        }
+    }
 }
 
-fn comes_before(owed: &[i64], a: u8, b: u8) -> bool
-    requires { (a < length owed.now) × (b < length owed.now) }
-    ensures { result ≡ before (owed_in owed.now) a b }
+impl Error for OrderFault {}
+
+// What a guest is owed: nothing where the list has no such guest.
+fn owed_to(owed: &[i64], guest: u8) -> i64
+    ensures { result ≡ owed_in owed.now guest }
 {
-    let more = owed[usize::from(a)];
-    let less = owed[usize::from(b)];
-    more > less || more == less && a < b
+    owed.get(usize::from(guest)).copied().unwrap_or(0)
 }
 
 fn is_owed(owed: &[i64], guest: u8) -> bool
-    requires { guest < length owed.now }
     ensures { result ≡ is_owed owed.now guest }
 {
-    owed[usize::from(guest)] > 0
+    owed_to(owed, guest) > 0
 }
 
-// Notes that a guest is there, if it is one of those that are looked for.
-fn note(there: &mut [bool], guest: u8)
-    ensures { there.new ≡ slice_set there.old guest true }
+// Of two guests the one with the lesser rank comes first: who is owed more, and of equals the lower.
+fn rank(owed: &[i64], guest: u8) -> (Reverse<i64>, u8)
+    ensures owed { result.0.0 ≡ owed_in owed.now guest }
+    ensures guest { result.1 ≡ guest }
 {
-    let guest = usize::from(guest);
-    if guest < there.len() {
-        there[guest] = true;
-    }
+    (Reverse(owed_to(owed, guest)), guest)
 }
 
-// Whether each guest is in the list, of as many guests as it has places: then nobody else is.
-fn each_there(by: &[u8]) -> bool
-    requires { length by.now ≤ 64 }
-    ensures there { result ≡ each_there (length by.now) by.now }
-    ensures guests { result ≡ true → All (λ g. g < length by.now) by.now }
+fn comes_before(owed: &[i64], a: u8, b: u8) -> bool
+    ensures { result ≡ before (owed_in owed.now) a b }
 {
-    let mut there = [false; Plan::MAX_GUESTS];
-    for guest in by {
-        note(&mut there, *guest);
-    }
-    !there[..by.len()].contains(&false)
+    rank(owed, a) < rank(owed, b)
 }
 
 // Whether each guest comes before the next.
 fn in_order(owed: &[i64], by: &[u8]) -> bool
-    requires long { length by.now ≡ length owed.now }
-    requires guests { All (λ g. g < length by.now) by.now }
     ensures { result ≡ in_order (owed_in owed.now) by.now }
 {
-    for pair in by.windows(2) {
-        if !comes_before(owed, pair[0], pair[1]) {
-            return false;
-        }
-    }
-    true
+    by.is_sorted_by(|a, b| comes_before(owed, *a, *b))
 }
 
+// Whether nobody but guests is in the list.
+fn only_guests(guests: usize, by: &[u8]) -> bool
+    ensures { result ≡ list_all (λ g. nat_lt g guests) by.now }
+{
+    by.iter().all(|guest| usize::from(*guest) < guests)
+}
+
+// Whether the list has all guests in order. Where it has one place for each guest and nobody else, and each comes before
+// the next, no guest is there twice: so each is there.
 fn ranks_all(owed: &[i64], by: &[u8]) -> bool
     ensures { result ≡ ranks_all owed.now by.now }
 {
-    owed.len() <= Plan::MAX_GUESTS && by.len() == owed.len() && each_there(by) && in_order(owed, by)
+    owed.len() <= Plan::MAX_GUESTS
+        && by.len() == owed.len()
+        && only_guests(owed.len(), by)
+        && in_order(owed, by)
 }
 
 // How many places of a list in order come before the first whose guest is owed nothing.
@@ -93,12 +91,7 @@ fn count_owed(owed: &[i64], by: &[u8]) -> usize
     ensures says { PartSays owed.now by.now (take result by.now) }
     ensures keeps { PartLaws owed.now by.now (take result by.now) }
 {
-    for (place, guest) in by.iter().enumerate() {
-        if !is_owed(owed, *guest) {
-            return place;
-        }
-    }
-    by.len()
+    by.partition_point(|guest| is_owed(owed, *guest))
 }
 
 // The part of `by` with the guests that are owed more than 0, where `by` has all guests in the order of what they are
@@ -113,35 +106,13 @@ pub fn who_is_owed<'a>(owed: &[i64], by: &'a [u8]) -> &'a [u8]
     &by[..count_owed(owed, by)]
 }
 
-impl Standing {
-    fn of(guest: u8, amount: i64) -> Standing
-        ensures { result ≡ standing guest amount }
-    {
-        Standing {
-            owed: Reverse(amount),
-            guest,
-        }
-    }
-}
-
-// Writes each guest with what it is owed, in the order of their numbers.
-fn write_standings(owed: &[i64], all: &mut [Standing])
-    requires few { length owed.now ≤ 64 }
-    requires long { length all.old ≡ length owed.now }
-    ensures { all.new ≡ standings owed.now }
+// Writes the guests' numbers into the list, from 0.
+fn write_guests(by: &mut [u8])
+    requires { length by.old ≤ 64 }
+    ensures { by.new ≡ range_with_len 0 (length by.old) }
 {
-    for (guest, place) in all.iter_mut().enumerate() {
-        *place = Standing::of(guest as u8, owed[guest]);
-    }
-}
-
-// Writes the guests into the list, place by place.
-fn write_guests(ranked: &[Standing], by: &mut [u8])
-    requires { length by.old ≡ length ranked.now }
-    ensures { by.new ≡ map (λ s. s.guest) ranked.now }
-{
-    for (place, guest) in by.iter_mut().enumerate() {
-        *guest = ranked[place].guest;
+    for (guest, place) in by.iter_mut().enumerate() {
+        *place = guest as u8;
     }
 }
 
@@ -152,11 +123,8 @@ fn put_in_order(owed: &[i64], by: &mut [u8])
     ensures ranks { ranks_all owed.now by.new ≡ true }
     ensures shuffled { IsPermutation (range_with_len 0 (length owed.now)) by.new }
 {
-    let mut room = [Standing::of(0, 0); Plan::MAX_GUESTS];
-    let all = &mut room[..owed.len()];
-    write_standings(owed, all);
-    all.sort_unstable();
-    write_guests(all, by);
+    write_guests(by);
+    by.sort_unstable_by_key(|guest| rank(owed, *guest));
 }
 
 // Puts all guests into `by` in the order of what they are owed, the most first, of equals the lowest. A list that has

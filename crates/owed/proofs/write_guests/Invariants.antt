@@ -1,6 +1,5 @@
-use Rattle.std.proofs.Common.{map}
-use Rattle.owed.proofs.Writing.{Written}
+use Rattle.std.proofs.Common.{◌≡◌, ℕ, ◌<◌, get_or}
 use Rattle.owed.proofs.write_guests.Given as goal
 
-abbrev pub invariant-loop-place : goal.invariant-loop-place
-invariant-loop-place l = Written (map (λ s. s.guest) l.ranked) 0 l.place l.by
+abbrev pub invariant-loop-guest : goal.invariant-loop-guest
+invariant-loop-guest l = (k : ℕ) → k < l.guest → get_or l.by k 0 ≡ k
