@@ -1,13 +1,12 @@
 -- The order of guests is strict, and in a list that is in order each guest comes before all that follow, so that none is there twice.
-use Rattle.std.proofs.Common.{◌≡◌, ℕ, zero, suc, ◌<◌, ◌+◌, Bool, true, false, eqb, List, [], ◌∷◌, length, get_or, pos, refl, sym, subst, inl, inr, arith, add-one}
+use Rattle.std.proofs.Common.{◌≡◌, ℕ, zero, suc, ◌<◌, ◌+◌, Bool, true, false, eqb, List, [], ◌∷◌, length, get_or, pos, refl, sym, inl, inr, arith, add-one}
 use lib.Signed.{lt_z}
 use Rattle.guests.specs.Guests.{Owed}
 use Rattle.owed.specs.Orders.{before, in_order}
 use Rattle.std.specs.List.{IsAllAdjacentAnswer, IsDistinct}
 use Rattle.std.proofs.lemmas.Int.{ints}
-use Rattle.std.proofs.lemmas.Bool.{and_from, and_parts, both_ways, cases_Bool, ne_eqb}
-use Rattle.std.proofs.lemmas.Bool.Decides.{nat_tests, when_false, when_true}
-use Rattle.std.proofs.lemmas.List.{get_or_default}
+use Rattle.std.proofs.lemmas.Bool.{and_from, and_parts, both_ways, cases_Bool}
+use Rattle.std.proofs.lemmas.Bool.Decides.{nat_tests}
 use Rattle.std.proofs.lemmas.Map.Keys.{IsDistinct-from_apart}
 
 module _ (o : Owed) where

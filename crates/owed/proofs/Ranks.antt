@@ -1,5 +1,5 @@
 -- Which tests tell that a list has all guests in order, and that the numbers of all guests, sorted, pass them.
-use Rattle.std.proofs.Common.{◌≡◌, ℕ, ◌+◌, ◌<◌, ◌≤◌, Bool, true, false, ◌&&◌, eqb, leb, ltb, List, length, get_or, ℤ, sym, ap, ◌∙◌, inl, inr, arith, IsPermutation, int_cmp, nat_cmp, is_lt}
+use Rattle.std.proofs.Common.{◌≡◌, ℕ, ◌+◌, ◌<◌, ◌≤◌, Bool, true, false, ◌&&◌, eqb, leb, ltb, List, length, get_or, ℤ, sym, ◌∙◌, inl, inr, arith, IsPermutation, int_cmp, nat_cmp, is_lt}
 use Rattle.guests.specs.Guests.{Owed, owed_in}
 use Rattle.owed.specs.Orders.{before, each_there, in_order, ranks_all}
 use Rattle.owed.proofs.Order.{IsDistinct-from_in_order, in_order_from_before}

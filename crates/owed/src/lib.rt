@@ -75,6 +75,7 @@ fn only_guests(guests: usize, by: &[u8]) -> bool
 
 // Whether the list has all guests in order. Where it has one place for each guest and nobody else, and each comes before
 // the next, no guest is there twice: so each is there.
+#[tactic(auto, using(crate::proofs::Ranks::ranks_all_by_tests))]
 fn ranks_all(owed: &[i64], by: &[u8]) -> bool
     ensures { result ≡ ranks_all owed.now by.now }
 {
