@@ -4,25 +4,22 @@ use lib.Signed.{lt_z}
 use Rattle.guests.specs.Guests.{owed_in}
 use Rattle.owed.specs.Orders.{before, each_there, in_order, ranks_all}
 use Rattle.owed.specs.Parts.{Front, PartLaws, PartSays, is_owed}
-use Rattle.owed.proofs.Order.{before_from_in_order, before_irrefl, owed_before_owed}
+use Rattle.owed.proofs.Order.{before_from_in_order, before_apart, owed_before_owed}
 use Rattle.owed.proofs.There.{Decides-each_there}
 use Rattle.std.specs.List.{Contains}
 use Rattle.std.specs.List.Sorted.{IsPartitionPoint, IsPartitionedBy}
 use Rattle.std.proofs.lemmas.List.{get_or_default, get_or_past, get_or-take, length-take, length-take-le}
-use Rattle.std.proofs.lemmas.Bool.{and_parts, both_ways, cases_Bool, cases_eq, cases_lt, eqb-true, le-ltb, lt-ltb, ltb-true}
+use Rattle.std.proofs.lemmas.Bool.{and_parts, both_ways, cases_Bool, cases_eq, cases_lt, eqb-false, eqb-true, le-ltb, lt-ltb, ltb-true}
 use Rattle.std.proofs.lemmas.Bool.Decides.{when_false, when_true}
+use Rattle.std.proofs.lemmas.Int.{ints}
 use Rattle.std.proofs.lemmas.Map.Views.{Contains-from_any}
 
 -- nobody past the list is owed anything
 owed_is_guest : (os : List ℤ) (g : ℕ) → is_owed os g ≡ true → g < length os
-owed_is_guest os g owed =
-    elim (cases_lt g (length os)) [
-      | inl below ↦ below
-      | inr past ↦ absurd (both_ways (is_owed os g) (ap (lt_z (pos 0)) (get_or_past os g (pos 0) past)) owed)
-    ]
+owed_is_guest os g owed = grind (arith, ints, get_or_past os g (pos 0))
 
 module _ (os : List ℤ) (by : List ℕ) (ranks : ranks_all os by ≡ true) where
-  pub rank_parts : (length by ≡ length os) × (each_there (length os) by ≡ true) × (in_order (owed_in os) by ≡ true)
+  rank_parts : (length by ≡ length os) × (each_there (length os) by ≡ true) × (in_order (owed_in os) by ≡ true)
   rank_parts =
       let a = and_parts (leb (length os) 64) _ ranks in
       let b = and_parts (eqb (length by) (length os)) _ a.1 in
@@ -32,7 +29,7 @@ module _ (os : List ℤ) (by : List ℕ) (ranks : ranks_all os by ≡ true) wher
   pub IsPartitionedBy-ranks : IsPartitionedBy (is_owed os) by
   IsPartitionedBy-ranks i j d h k owed =
       elim (cases_eq i j) [
-        | inl same ↦ subst (λ m. is_owed os (get_or by m d) ≡ true) (sym same) owed
+        | inl same ↦ rw same owed
         | inr other ↦ owed_before_owed (owed_in os) (get_or by i d) (get_or by j d) (before_from_in_order (owed_in os) by rank_parts.2 i j d (omega arith) k) owed
       ]
 
@@ -51,7 +48,7 @@ module _ (os : List ℤ) (by : List ℕ) (ranks : ranks_all os by ≡ true) wher
     )
 
     pub PartSays-Front : PartSays os by (take r by)
-    PartSays-Front = subst (λ b. MatchBool b (Front os by (take r by)) (length (take r by) ≡ 0)) (sym ranks) Front_is
+    PartSays-Front = rw ranks Front_is
 
 -- what a part is, is also a law of who is in it
 module _ (os : List ℤ) (by part : List ℕ) where
@@ -75,13 +72,13 @@ module _ (os : List ℤ) (by part : List ℕ) where
     owed_in_part i h = front.1 i (omega (arith, short)) ∙ lt-ltb i (length part) h
 
     in_part_owed : (g : ℕ) → Contains part g → is_owed os g ≡ true
-    in_part_owed g has = subst (λ k. is_owed os k ≡ true) (sym (place has.0 g has.1) ∙ has.2) (owed_in_part has.0 has.1)
+    in_part_owed g has = rw (← has.2, place has.0 g has.1) (owed_in_part has.0 has.1)
 
     owed_has : (g : ℕ) → g < length os → is_owed os g ≡ true → Contains part g
     owed_has g h owed =
         let p = Contains-from_any eqb-true g by ((Decides-each_there (length os) by).0 (rank_parts os by ranks).1 g h) in
         let there : get_or by p.0 0 ≡ g = get_or_default by p.0 0 g p.1 ∙ p.2 in
-        let inside : p.0 < length part = ltb-true p.0 (length part) (sym (front.1 p.0 p.1) ∙ subst (λ k. is_owed os k ≡ true) (sym there) owed) in
+        let inside : p.0 < length part = ltb-true p.0 (length part) (sym (front.1 p.0 p.1) ∙ rw there owed) in
         (p.0, inside, place p.0 g inside ∙ there)
 
     ordered_in_part : (i j : ℕ) → i < j → j < length part → before (owed_in os) (get_or part i 0) (get_or part j 0) ≡ true
@@ -93,7 +90,7 @@ module _ (os : List ℤ) (by part : List ℕ) where
     laws_of_front = record {
       exactly = λ _ g h. (owed_has g h, in_part_owed g);
       guests = λ g has. (owed_is_guest os g (in_part_owed g has), in_part_owed g has);
-      once = λ i j h k e. before_irrefl (owed_in os) (get_or part j 0) (subst (λ g. before (owed_in os) g (get_or part j 0) ≡ true) e (ordered_in_part i j h k));
+      once = λ i j h k. eqb-false (get_or part i 0) (get_or part j 0) (before_apart (owed_in os) (get_or part i 0) (get_or part j 0) (ordered_in_part i j h k));
       ordered = ordered_in_part;
     }
 

@@ -10,11 +10,8 @@ use Rattle.std.proofs.lemmas.Bool.Decides.{nat_tests}
 use Rattle.std.proofs.lemmas.Map.Keys.{IsDistinct-from_apart}
 
 module _ (o : Owed) where
-  pub before_trans : (a b c : ℕ) → before o a b ≡ true → before o b c ≡ true → before o a c ≡ true
+  before_trans : (a b c : ℕ) → before o a b ≡ true → before o b c ≡ true → before o a c ≡ true
   before_trans a b c h k = grind (arith, ints, nat_tests)
-
-  pub before_irrefl : (a : ℕ) → before o a a ≡ true → ⊥
-  before_irrefl a h = grind (arith, ints, nat_tests)
 
   pub before_apart : (a b : ℕ) → before o a b ≡ true → eqb a b ≡ false
   before_apart a b h = grind (arith, ints, nat_tests)
