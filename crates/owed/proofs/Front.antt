@@ -1,6 +1,5 @@
 -- The front of a list in order has those who are owed anything, and what follows of a part that is such a front, or none.
-use Rattle.std.proofs.Common.{◌≡◌, ℕ, ◌<◌, ◌≤◌, true, false, eqb, leb, List, length, get_or, take, ℤ, pos, MatchBool, sym, ap, ◌∙◌, subst, inl, inr, arith}
-use lib.Signed.{lt_z}
+use Rattle.std.proofs.Common.{◌≡◌, ℕ, ◌<◌, ◌≤◌, true, false, List, length, get_or, take, ℤ, pos, sym, ap, ◌∙◌, inl, inr, arith}
 use Rattle.guests.specs.Guests.{owed_in}
 use Rattle.owed.specs.Orders.{before, each_there, in_order, ranks_all}
 use Rattle.owed.specs.Parts.{Front, PartLaws, PartSays, is_owed}
@@ -9,8 +8,8 @@ use Rattle.owed.proofs.There.{Decides-each_there}
 use Rattle.std.specs.List.{Contains}
 use Rattle.std.specs.List.Sorted.{IsPartitionPoint, IsPartitionedBy}
 use Rattle.std.proofs.lemmas.List.{get_or_default, get_or_past, get_or-take, length-take, length-take-le}
-use Rattle.std.proofs.lemmas.Bool.{and_parts, both_ways, cases_Bool, cases_eq, cases_lt, eqb-false, eqb-true, le-ltb, lt-ltb, ltb-true}
-use Rattle.std.proofs.lemmas.Bool.Decides.{when_false, when_true}
+use Rattle.std.proofs.lemmas.Bool.{both_ways, cases_Bool, cases_eq, cases_lt, eqb-false, eqb-true, le-ltb, lt-ltb, ltb-true}
+use Rattle.std.proofs.lemmas.Bool.Decides.{nat_tests, when_false, when_true}
 use Rattle.std.proofs.lemmas.Int.{ints}
 use Rattle.std.proofs.lemmas.Map.Views.{Contains-from_any}
 
@@ -20,11 +19,7 @@ owed_is_guest os g owed = grind (arith, ints, get_or_past os g (pos 0))
 
 module _ (os : List ℤ) (by : List ℕ) (ranks : ranks_all os by ≡ true) where
   rank_parts : (length by ≡ length os) × (each_there (length os) by ≡ true) × (in_order (owed_in os) by ≡ true)
-  rank_parts =
-      let a = and_parts (leb (length os) 64) _ ranks in
-      let b = and_parts (eqb (length by) (length os)) _ a.1 in
-      let c = and_parts (each_there (length os) by) _ b.1 in
-      (eqb-true (length by) (length os) b.0, c.0, c.1)
+  rank_parts = (grind (arith, nat_tests, ranks), grind (arith, ranks), grind (arith, ranks))
 
   pub IsPartitionedBy-ranks : IsPartitionedBy (is_owed os) by
   IsPartitionedBy-ranks i j d h k owed =

@@ -5,7 +5,7 @@ use Rattle.guests.specs.Guests.{Owed}
 use Rattle.owed.specs.Orders.{before, in_order}
 use Rattle.std.specs.List.{IsAllAdjacentAnswer, IsDistinct}
 use Rattle.std.proofs.lemmas.Int.{ints}
-use Rattle.std.proofs.lemmas.Bool.{and_from, and_parts, both_ways, cases_Bool}
+use Rattle.std.proofs.lemmas.Bool.{and_from, both_ways, cases_Bool}
 use Rattle.std.proofs.lemmas.Bool.Decides.{nat_tests}
 use Rattle.std.proofs.lemmas.Map.Keys.{IsDistinct-from_apart}
 
@@ -23,12 +23,9 @@ module _ (o : Owed) where
   before_from_in_order [] e i j d h k = absurd (omega arith)
   before_from_in_order (a ∷ []) e i j d h k = absurd (omega arith)
   before_from_in_order (a ∷ (b ∷ gs)) e i zero d h k = absurd (omega arith)
-  before_from_in_order (a ∷ (b ∷ gs)) e zero (suc zero) d h k = (and_parts (before o a b) (in_order o (b ∷ gs)) e).0
-  before_from_in_order (a ∷ (b ∷ gs)) e zero (suc (suc j)) d h k =
-      let parts = and_parts (before o a b) (in_order o (b ∷ gs)) e in
-      before_trans a b (get_or gs j d) parts.0 (before_from_in_order (b ∷ gs) parts.1 zero (suc j) d (omega arith) (omega arith))
-  before_from_in_order (a ∷ (b ∷ gs)) e (suc i) (suc j) d h k =
-      before_from_in_order (b ∷ gs) (and_parts (before o a b) (in_order o (b ∷ gs)) e).1 i j d (omega arith) (omega arith)
+  before_from_in_order (a ∷ (b ∷ gs)) e zero (suc zero) d h k = grind (arith, e)
+  before_from_in_order (a ∷ (b ∷ gs)) e zero (suc (suc j)) d h k = before_trans a b (get_or gs j d) (grind (arith, e)) (before_from_in_order (b ∷ gs) (grind (arith, e)) zero (suc j) d (omega arith) (omega arith))
+  before_from_in_order (a ∷ (b ∷ gs)) e (suc i) (suc j) d h k = before_from_in_order (b ∷ gs) (grind (arith, e)) i j d (omega arith) (omega arith)
 
   pub in_order_from_before : (gs : List ℕ) → ((k d : ℕ) → k + 1 < length gs → before o (get_or gs k d) (get_or gs (k + 1) d) ≡ true) → in_order o gs ≡ true
   in_order_from_before [] each = refl

@@ -8,7 +8,7 @@ use Rattle.std.specs.Cmp.{nat_eq_equiv}
 use Rattle.std.specs.List.{IsDistinct, list_all, range_with_len}
 use Rattle.std.specs.List.Sorted.{IsSortedBy}
 use Rattle.std.specs.Ordering.{ordering_then}
-use Rattle.std.proofs.lemmas.Bool.{and_from, cases_Bool, eq-eqb, eqb-true, le-leb, ne_eqb}
+use Rattle.std.proofs.lemmas.Bool.{cases_Bool, eq-eqb, eqb-true, ne_eqb}
 use Rattle.std.proofs.lemmas.Bool.Decides.{nat_tests}
 use Rattle.std.proofs.lemmas.Int.{ints}
 use Rattle.std.proofs.lemmas.List.Folds.{list_any_at}
@@ -20,9 +20,9 @@ pub ranks_all_by_tests : (os : List ℤ) (by : List ℕ) → ranks_all os by ≡
 ranks_all_by_tests os by =
     elim (cases_Bool (in_order (owed_in os) by)) [
       | inl ordered ↦ elim (cases_Bool (eqb (length by) (length os))) [
-          | inl long ↦ grind (arith, each_there_as_only (length os) by (eqb-true (length by) (length os) long) (IsDistinct-from_in_order (owed_in os) by ordered))
-          | inr other ↦ grind arith
-        ]
+        | inl long ↦ grind (arith, each_there_as_only (length os) by (eqb-true (length by) (length os) long) (IsDistinct-from_in_order (owed_in os) by ordered))
+        | inr other ↦ grind arith
+      ]
       | inr not_ordered ↦ grind arith
     ]
 
@@ -53,8 +53,5 @@ module _ (os : List ℤ) (by : List ℕ) (shuffled : IsPermutation (range_with_l
 
   pub ranks_all_from_sorted : length os ≤ 64 → IsSortedBy (lesser (owed_in os)) by → ranks_all os by ≡ true
   ranks_all_from_sorted few sorted =
-      and_from (leb (length os) 64) _ (le-leb (length os) 64 few)
-      (and_from (eqb (length by) (length os)) _ (eq-eqb (length by) (length os) long)
-      (and_from (each_there (length os) by) _ all_there
-      (in_order_from_before (owed_in os) by
-      (λ k d h. before_from_sorted (owed_in os) (get_or by k d) (get_or by (k + 1) d) (sorted k d (omega arith) h) (apart_from_distinct eqb by k (k + 1) d distinct (omega arith) h)))))
+      let ordered = in_order_from_before (owed_in os) by (λ k d h. before_from_sorted (owed_in os) (get_or by k d) (get_or by (k + 1) d) (sorted k d (omega arith) h) (apart_from_distinct eqb by k (k + 1) d distinct (omega arith) h)) in
+      grind (arith, nat_tests, long, all_there, ordered)
