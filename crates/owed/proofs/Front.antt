@@ -77,9 +77,7 @@ module _ (os : List ℤ) (by part : List ℕ) where
         (p.0, inside, place p.0 g inside ∙ there)
 
     ordered_in_part : (i j : ℕ) → i < j → j < length part → before (owed_in os) (get_or part i 0) (get_or part j 0) ≡ true
-    ordered_in_part i j h k =
-        ap (before (owed_in os) (get_or part i 0)) (place j 0 k) ∙ ap (λ g. before (owed_in os) g (get_or by j 0)) (place i 0 (omega arith))
-        ∙ before_from_in_order (owed_in os) by (rank_parts os by ranks).2 i j 0 h (omega (arith, short))
+    ordered_in_part i j h k = rw (place i 0 (omega arith), place j 0 k) (before_from_in_order (owed_in os) by (rank_parts os by ranks).2 i j 0 h (omega (arith, short)))
 
     laws_of_front : PartLaws os by part
     laws_of_front = record {

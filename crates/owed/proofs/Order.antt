@@ -1,11 +1,11 @@
 -- The order of guests is strict, and in a list that is in order each guest comes before all that follow, so that none is there twice.
-use Rattle.std.proofs.Common.{◌≡◌, ℕ, zero, suc, ◌<◌, ◌+◌, Bool, true, false, eqb, List, [], ◌∷◌, length, get_or, pos, refl, sym, inl, inr, arith, add-one}
+use Rattle.std.proofs.Common.{◌≡◌, ℕ, zero, suc, ◌<◌, ◌+◌, Bool, true, false, eqb, List, [], ◌∷◌, length, get_or, pos, refl, sym, arith, add-one}
 use lib.Signed.{lt_z}
 use Rattle.guests.specs.Guests.{Owed}
 use Rattle.owed.specs.Orders.{before, in_order}
 use Rattle.std.specs.List.{IsAllAdjacentAnswer, IsDistinct}
 use Rattle.std.proofs.lemmas.Int.{ints}
-use Rattle.std.proofs.lemmas.Bool.{and_from, both_ways, cases_Bool}
+use Rattle.std.proofs.lemmas.Bool.{and_from}
 use Rattle.std.proofs.lemmas.Bool.Decides.{nat_tests}
 use Rattle.std.proofs.lemmas.Map.Keys.{IsDistinct-from_apart}
 
@@ -39,8 +39,4 @@ module _ (o : Owed) where
   -- what `is_sorted_by` answers
   pub is_in_order : (gs : List ℕ) (r : Bool) → IsAllAdjacentAnswer (λ x y b. b ≡ before o x y) gs r → r ≡ in_order o gs
   is_in_order gs true each = sym (in_order_from_before gs (λ k d h. sym (each k d h)))
-  is_in_order gs false (k, h, not_before) =
-      elim (cases_Bool (in_order o gs)) [
-        | inl ordered ↦ absurd (both_ways _ (sym (not_before 0)) (before_from_in_order gs ordered k (k + 1) 0 (omega arith) h))
-        | inr not_ordered ↦ sym not_ordered
-      ]
+  is_in_order gs false (k, h, not_before) = grind (arith, not_before 0, λ (ordered : in_order o gs ≡ true). before_from_in_order gs ordered k (k + 1) 0 (omega arith) h)

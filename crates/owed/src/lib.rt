@@ -66,7 +66,7 @@ fn in_order(owed: &[i64], by: &[u8]) -> bool
     by.is_sorted_by(|a, b| comes_before(owed, *a, *b))
 }
 
-// Whether nobody but guests is in the list.
+// Whether everybody in the list is one of so many guests.
 fn only_guests(guests: usize, by: &[u8]) -> bool
     ensures { result ≡ list_all (λ g. nat_lt g guests) by.now }
 {
