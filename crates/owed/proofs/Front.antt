@@ -5,12 +5,13 @@ use Rattle.owed.specs.Orders.{before, each_there, in_order, ranks_all}
 use Rattle.owed.specs.Parts.{Front, PartLaws, PartSays, is_owed}
 use Rattle.owed.proofs.Order.{before_from_in_order, before_apart, owed_before_owed}
 use Rattle.owed.proofs.There.{Decides-each_there}
-use Rattle.std.specs.List.{Contains}
+use Rattle.std.specs.List.{All, AllPairs, Contains}
 use Rattle.std.specs.List.Sorted.{IsPartitionPoint, IsPartitionedBy}
 use Rattle.std.proofs.lemmas.List.{get_or_default, get_or_past, get_or-take, length-take, length-take-le}
 use Rattle.std.proofs.lemmas.Bool.{both_ways, cases_Bool, cases_eq, cases_lt, eqb-false, eqb-true, le-ltb, lt-ltb, ltb-true}
 use Rattle.std.proofs.lemmas.Bool.Decides.{nat_tests, when_false, when_true}
 use Rattle.std.proofs.lemmas.Int.{ints}
+use Rattle.std.proofs.lemmas.List.Elements.{All-contains}
 use Rattle.std.proofs.lemmas.Map.Views.{Contains-from_any}
 
 -- nobody past the list is owed anything
@@ -50,9 +51,9 @@ module _ (os : List ℤ) (by part : List ℕ) where
   laws_of_none : ranks_all os by ≡ false → length part ≡ 0 → PartLaws os by part
   laws_of_none not_taken none = record {
     exactly = λ taken. absurd (both_ways (ranks_all os by) not_taken taken);
-    guests = λ g has. absurd (omega (arith, none, has.1));
-    once = λ i j h k. absurd (omega (arith, none));
-    ordered = λ i j h k. absurd (omega (arith, none));
+    guests = λ k d h. absurd (omega (arith, none));
+    once = λ i j d h k. absurd (omega (arith, none));
+    ordered = λ i j d h k. absurd (omega (arith, none));
   }
 
   module _ (ranks : ranks_all os by ≡ true) (front : Front os by part) where
@@ -63,11 +64,8 @@ module _ (os : List ℤ) (by part : List ℕ) where
     place : (i d : ℕ) → i < length part → get_or part i d ≡ get_or by i 0
     place i d h = ap (λ p. get_or p i d) front.0 ∙ get_or-take (length part) by i d h ∙ get_or_default by i d 0 (omega (arith, short))
 
-    owed_in_part : (i : ℕ) → i < length part → is_owed os (get_or by i 0) ≡ true
-    owed_in_part i h = front.1 i (omega (arith, short)) ∙ lt-ltb i (length part) h
-
-    in_part_owed : (g : ℕ) → Contains part g → is_owed os g ≡ true
-    in_part_owed g has = rw (← has.2, place has.0 g has.1) (owed_in_part has.0 has.1)
+    owed_in_part : All (λ g. is_owed os g ≡ true) part
+    owed_in_part i d h = rw (place i d h) (front.1 i (omega (arith, short)) ∙ lt-ltb i (length part) h)
 
     owed_has : (g : ℕ) → g < length os → is_owed os g ≡ true → Contains part g
     owed_has g h owed =
@@ -76,14 +74,14 @@ module _ (os : List ℤ) (by part : List ℕ) where
         let inside : p.0 < length part = ltb-true p.0 (length part) (sym (front.1 p.0 p.1) ∙ rw there owed) in
         (p.0, inside, place p.0 g inside ∙ there)
 
-    ordered_in_part : (i j : ℕ) → i < j → j < length part → before (owed_in os) (get_or part i 0) (get_or part j 0) ≡ true
-    ordered_in_part i j h k = rw (place i 0 (omega arith), place j 0 k) (before_from_in_order (owed_in os) by (rank_parts os by ranks).2 i j 0 h (omega (arith, short)))
+    ordered_in_part : AllPairs (λ g h. before (owed_in os) g h ≡ true) part
+    ordered_in_part i j d h k = rw (place i d (omega arith), place j d k) (before_from_in_order (owed_in os) by (rank_parts os by ranks).2 i j 0 h (omega (arith, short)))
 
     laws_of_front : PartLaws os by part
     laws_of_front = record {
-      exactly = λ _ g h. (owed_has g h, in_part_owed g);
-      guests = λ g has. (owed_is_guest os g (in_part_owed g has), in_part_owed g has);
-      once = λ i j h k. eqb-false (get_or part i 0) (get_or part j 0) (before_apart (owed_in os) (get_or part i 0) (get_or part j 0) (ordered_in_part i j h k));
+      exactly = λ _ g h. (owed_has g h, All-contains (λ k. is_owed os k ≡ true) part g owed_in_part);
+      guests = λ k d h. (owed_is_guest os (get_or part k d) (owed_in_part k d h), owed_in_part k d h);
+      once = λ i j d h k. eqb-false (get_or part i d) (get_or part j d) (before_apart (owed_in os) (get_or part i d) (get_or part j d) (ordered_in_part i j d h k));
       ordered = ordered_in_part;
     }
 

@@ -1,9 +1,9 @@
 -- The order of guests is strict, and in a list that is in order each guest comes before all that follow, so that none is there twice.
-use Rattle.std.proofs.Common.{◌≡◌, ℕ, zero, suc, ◌<◌, ◌+◌, Bool, true, false, eqb, List, [], ◌∷◌, length, get_or, pos, refl, sym, arith, add-one}
+use Rattle.std.proofs.Common.{◌≡◌, ℕ, zero, suc, ◌+◌, Bool, true, false, eqb, List, [], ◌∷◌, length, get_or, pos, refl, sym, arith, add-one}
 use lib.Signed.{lt_z}
 use Rattle.guests.specs.Guests.{Owed}
 use Rattle.owed.specs.Orders.{before, in_order}
-use Rattle.std.specs.List.{IsAllAdjacentAnswer, IsDistinct}
+use Rattle.std.specs.List.{AllAdjacentBelow, AllPairs, IsAllAdjacentAnswer, IsDistinct}
 use Rattle.std.proofs.lemmas.Int.{ints}
 use Rattle.std.proofs.lemmas.Bool.{and_from}
 use Rattle.std.proofs.lemmas.Bool.Decides.{nat_tests}
@@ -19,7 +19,7 @@ module _ (o : Owed) where
   pub owed_before_owed : (a b : ℕ) → before o a b ≡ true → lt_z (pos 0) (o b) ≡ true → lt_z (pos 0) (o a) ≡ true
   owed_before_owed a b h owed = grind (arith, ints, nat_tests)
 
-  pub before_from_in_order : (gs : List ℕ) → in_order o gs ≡ true → (i j d : ℕ) → i < j → j < length gs → before o (get_or gs i d) (get_or gs j d) ≡ true
+  pub before_from_in_order : (gs : List ℕ) → in_order o gs ≡ true → AllPairs (λ a b. before o a b ≡ true) gs
   before_from_in_order [] e i j d h k = absurd (omega arith)
   before_from_in_order (a ∷ []) e i j d h k = absurd (omega arith)
   before_from_in_order (a ∷ (b ∷ gs)) e i zero d h k = absurd (omega arith)
@@ -27,7 +27,7 @@ module _ (o : Owed) where
   before_from_in_order (a ∷ (b ∷ gs)) e zero (suc (suc j)) d h k = before_trans a b (get_or gs j d) (grind (arith, e)) (before_from_in_order (b ∷ gs) (grind (arith, e)) zero (suc j) d (omega arith) (omega arith))
   before_from_in_order (a ∷ (b ∷ gs)) e (suc i) (suc j) d h k = before_from_in_order (b ∷ gs) (grind (arith, e)) i j d (omega arith) (omega arith)
 
-  pub in_order_from_before : (gs : List ℕ) → ((k d : ℕ) → k + 1 < length gs → before o (get_or gs k d) (get_or gs (k + 1) d) ≡ true) → in_order o gs ≡ true
+  pub in_order_from_before : (gs : List ℕ) → AllAdjacentBelow (λ a b. before o a b ≡ true) gs (length gs) → in_order o gs ≡ true
   in_order_from_before [] each = refl
   in_order_from_before (a ∷ []) each = refl
   in_order_from_before (a ∷ (b ∷ gs)) each =

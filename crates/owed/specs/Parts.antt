@@ -1,7 +1,8 @@
 -- The part of a list of guests that has those who are owed anything. Assumes nothing: these are definitions.
-use Rattle.std.specs.Prelude.{◌≡◌, ℕ, ◌<◌, Bool, true, List, length, take, ℤ, pos, Decides, MatchBool, ◌≢◌, int_lt, nat_lt, slice_index, Contains}
+use Rattle.std.specs.Prelude.{◌≡◌, ℕ, ◌<◌, Bool, true, List, length, take, ℤ, pos, Decides, MatchBool, ◌≢◌, int_lt, nat_lt, slice_index, All, Contains}
 use Rattle.guests.specs.Guests.{owed_in}
 use Rattle.owed.specs.Orders.{before, ranks_all}
+use Rattle.std.specs.List.{AllPairs}
 
 -- a guest is owed more than 0
 abbrev pub is_owed : List ℤ → ℕ → Bool
@@ -20,6 +21,6 @@ PartSays os by part = MatchBool (ranks_all os by) (Front os by part) (length par
 -- who is in the part: of a list that is taken, a guest if and only if it is owed anything; of any list no guest twice, and the most owed first
 pub record PartLaws (os : List ℤ) (by part : List ℕ) : Type 0 where
   pub exactly : ranks_all os by ≡ true → (g : ℕ) → g < length os → Decides (is_owed os g) (Contains part g)
-  pub guests : (g : ℕ) → Contains part g → (g < length os) × (is_owed os g ≡ true)
-  pub once : (i j : ℕ) → i < j → j < length part → slice_index part i ≢ slice_index part j
-  pub ordered : (i j : ℕ) → i < j → j < length part → before (owed_in os) (slice_index part i) (slice_index part j) ≡ true
+  pub guests : All (λ g. (g < length os) × (is_owed os g ≡ true)) part
+  pub once : AllPairs (λ g h. g ≢ h) part
+  pub ordered : AllPairs (λ g h. before (owed_in os) g h ≡ true) part
