@@ -1,69 +1,76 @@
--- The search for the runner, guest by guest: the best candidate so far, and the shares of those who want so far.
-use Rattle.std.proofs.Common.{◌≡◌, ℕ, ◌+◌, Bool, true, false, cond, ◌&&◌, ℤ, pos, ◌+ℤ◌, is_some, Some, None, Option, sym, refl, ap, ◌∙◌, arith}
-use Rattle.std.proofs.lemmas.Int.{ints}
-use Rattle.std.specs.Option.{option_map}
-use Rattle.guests.specs.Guests.{Host, Wants, Owed, sum_below}
-use Rattle.guests.proofs.Sums.{sum_below_more}
-use Rattle.slices.specs.Steps.{takes_turn}
-use Rattle.bounds.specs.Rule.{beats, earned, runner_below}
-use Rattle.slices.specs.declared.Candidate.{Candidate}
-use Rattle.bounds.proofs.Runner.{runner_below_more}
+-- The search for the runner, guest by guest: the best candidate of those below a guest is the runner among them.
+use Rattle.std.proofs.Common.{◌≡◌, ℕ, ◌+◌, ◌<◌, Bool, true, false, cond, ◌&&◌, List, ℤ, pos, ◌+ℤ◌, is_some, Some, None, Option, sym, refl, ap, ◌∙◌, arith, w64, to_z, of_z}
+use lib.Signed.{lt_z}
+use Rattle.std.proofs.lemmas.Bool.{eq-eqb, ne_eqb}
+use Rattle.std.specs.Option.{option_map, IfSome}
+use Rattle.guests.specs.Guests.{Owed, owed_in}
+use Rattle.bounds.specs.Laws.{Chosen}
+use Rattle.bounds.specs.Rule.{beats, claim, runner_below}
+use Rattle.bounds.proofs.Earning.{earned_awake}
+use Rattle.bounds.proofs.Runner.{runner_below_more, Chosen-runner_below}
+use Rattle.slices.specs.Steps.{InReach, better, host_of, wants_of}
+use Rattle.slices.specs.declared.lists.Candidate.{Candidate}
+use Rattle.slices.specs.declared.lists.Lists.{Lists}
+use Rattle.slices.proofs.Amounts.{owed_read}
+use Rattle.slices.proofs.Beside.{Stands}
 
 abbrev pub candidate : Owed → ℕ → Candidate
-candidate q g = record { guest = g; claim = q g }
+candidate q g = record { claim = q g; guest = record { 0 = g } }
 
--- of the guests below i
-pub record SoFar (h : Host) (w : Wants) (q : Owed) (i : ℕ) (best : Option Candidate) (cost : ℤ) : Type 0 where
-  pub best_is : best ≡ option_map (candidate q) (runner_below w q i)
-  pub cost_is : cost ≡ pos (sum_below i (earned h w))
+candidate_is : (q : Owed) (i : ℕ) (c : Candidate) → c.guest.0 ≡ i → c.claim ≡ q i → c ≡ candidate q i
+candidate_is q i c e f =
+    ap (λ (n : ℕ). record { claim = c.claim; guest = record { 0 = n } }) e ∙ ap (λ (a : ℤ). record { claim = a; guest = record { 0 = i } }) f
 
-takes_turn_is : (q : Owed) (n : ℕ) (r : Option ℕ) → takes_turn (q n) (option_map (candidate q) r) ≡ beats q n r
-takes_turn_is q n None = refl
-takes_turn_is q n (Some g) = refl
+better_is : (q : Owed) (i : ℕ) (r : Option ℕ) → Some (better (option_map (candidate q) r) (candidate q i)) ≡ option_map (candidate q) (cond (beats q i r) (Some i) r)
+better_is q i None = refl
+better_is q i (Some g) =
+    elim (lt_z (q g) (q i)) as (λ b. Some (cond b (candidate q i) (candidate q g)) ≡ option_map (candidate q) (cond b (Some i) (Some g))) [ true ↦ refl | false ↦ refl ]
 
--- the turn of guest i, after which the place is j
-module _ (h : Host) (w : Wants) (q : Owed) (i j : ℕ) (step : j ≡ i + 1) (best best' : Option Candidate) (cost cost' : ℤ) (s : SoFar h w q i best cost) (is : cost' ≡ cost +ℤ pos (earned h w i)) where
-  runner_next : (b : Bool) → w i ≡ b → runner_below w q j ≡ cond (b && beats q i (runner_below w q i)) (Some i) (runner_below w q i)
-  runner_next b e =
-      ap (runner_below w q) step ∙ runner_below_more w q i
-      ∙ ap (λ t. cond (t && beats q i (runner_below w q i)) (Some i) (runner_below w q i)) e
+-- what guests are owed once they have earned
+abbrev pub claims : Lists → List ℤ → Owed
+claims l os = claim (host_of l) (wants_of l) (owed_in os)
 
-  cost_next : cost' ≡ pos (sum_below j (earned h w))
-  cost_next =
-      let more : sum_below j (earned h w) ≡ sum_below i (earned h w) + earned h w i = ap (λ n. sum_below n (earned h w)) step ∙ sum_below_more i (earned h w) in
-      let so_far = s.cost_is in
-      omega (arith, ints)
+abbrev pub runner_of : Lists → List ℤ → ℕ → Option ℕ
+runner_of l os i = runner_below (wants_of l) (claims l os) i
 
-  pub SoFar_asleep : best' ≡ best → w i ≡ false → SoFar h w q j best' cost'
-  SoFar_asleep b e = record { best_is = b ∙ s.best_is ∙ sym (ap (option_map (candidate q)) (runner_next false e)); cost_is = cost_next }
+-- the best candidate of the guests below i
+abbrev pub best_of : Lists → List ℤ → ℕ → Option Candidate
+best_of l os i = option_map (candidate (claims l os)) (runner_of l os i)
 
-  -- who wants: its claim against the best so far
-  module _ (e : w i ≡ true) where
-    runner_turn : (t : Bool) → takes_turn (q i) best ≡ t → runner_below w q j ≡ cond t (Some i) (runner_below w q i)
-    runner_turn t f =
-        runner_next true e
-        ∙ ap (λ b. cond b (Some i) (runner_below w q i)) (sym (takes_turn_is q i (runner_below w q i)) ∙ sym (ap (takes_turn (q i)) s.best_is) ∙ f)
+module _ (l : Lists) (os : List ℤ) where
+  pub best_of-lower : (i : ℕ) → IfSome (best_of l os i) (λ b. b.guest.0 < i)
+  best_of-lower i = by (runner_of l os i) (Chosen-runner_below (wants_of l) (claims l os) i)
+    where
+      by : (r : Option ℕ) → Chosen (wants_of l) (claims l os) i r → IfSome (option_map (candidate (claims l os)) r) (λ b. b.guest.0 < i)
+      by None c = tt
+      by (Some g) c = c.0
 
-    pub SoFar_takes : best' ≡ Some (candidate q i) → takes_turn (q i) best ≡ true → SoFar h w q j best' cost'
-    SoFar_takes b f = record { best_is = b ∙ sym (ap (option_map (candidate q)) (runner_turn true f)); cost_is = cost_next }
+  best_of_more : (i : ℕ) (b : Bool) → wants_of l i ≡ b → best_of l os (i + 1) ≡ option_map (candidate (claims l os)) (cond (b && beats (claims l os) i (runner_of l os i)) (Some i) (runner_of l os i))
+  best_of_more i b e = ap (option_map (candidate (claims l os))) (runner_below_more (wants_of l) (claims l os) i ∙ ap (λ t. cond (t && beats (claims l os) i (runner_of l os i)) (Some i) (runner_of l os i)) e)
 
-    pub SoFar_keeps : best' ≡ best → takes_turn (q i) best ≡ false → SoFar h w q j best' cost'
-    SoFar_keeps b f = record { best_is = b ∙ s.best_is ∙ sym (ap (option_map (candidate q)) (runner_turn false f)); cost_is = cost_next }
+  module _ (i x v : ℕ) (y : ℤ) (at : Stands l os i x v y) where
+    pub best_of-asleep : (v ≡ 1 → ⊥) → best_of l os (i + 1) ≡ best_of l os i
+    best_of-asleep e = best_of_more i false (ne_eqb _ 1 (λ f. e (at.want ∙ f)))
 
-pub candidate_is : (q : Owed) (c : Candidate) (i : ℕ) → c.guest ≡ i → c.claim ≡ q i → c ≡ candidate q i
-candidate_is q c i e f = ap (λ (n : ℕ). record { guest = n; claim = c.claim }) e ∙ ap (λ (a : ℤ). record { guest = i; claim = a }) f
+    -- the candidate c is the guest, which wants, with its amount as code has read it
+    pub best_of-awake : InReach l os → v ≡ 1 → (c : Candidate) → c.guest.0 ≡ i → c.claim ≡ to_z w64 (of_z w64 y) +ℤ pos x → best_of l os (i + 1) ≡ Some (better (best_of l os i) c)
+    best_of-awake r e c g f =
+        let awake = eq-eqb _ 1 (sym at.want ∙ e) in
+        let claims_it = f ∙ ap (λ z. z +ℤ pos x) (owed_read l os r i at.within y at.owed).0
+        ∙ ap (λ n. owed_in os i +ℤ pos n) (at.share ∙ sym (earned_awake (host_of l) (wants_of l) i awake)) in
+        best_of_more i true awake ∙ sym (better_is (claims l os) i (runner_of l os i))
+        ∙ ap (λ k. Some (better (best_of l os i) k)) (sym (candidate_is (claims l os) i c g claims_it))
 
--- at the end
-pub SoFar_some : (h : Host) (w : Wants) (q : Owed) (n : ℕ) (best : Option Candidate) (cost : ℤ) → SoFar h w q n best cost → is_some (runner_below w q n) ≡ true → is_some best ≡ true
-SoFar_some h w q n best cost s some = ap is_some s.best_is ∙ mapped_some (runner_below w q n) some
-  where
-    mapped_some : (r : Option ℕ) → is_some r ≡ true → is_some (option_map (candidate q) r) ≡ true
-    mapped_some None e = e
-    mapped_some (Some g) e = refl
+  pub best_of-some : (i : ℕ) → is_some (runner_of l os i) ≡ true → is_some (best_of l os i) ≡ true
+  best_of-some i some = by (runner_of l os i) some
+    where
+      by : (r : Option ℕ) → is_some r ≡ true → is_some (option_map (candidate (claims l os)) r) ≡ true
+      by None e = e
+      by (Some g) e = refl
 
-pub SoFar_runner : (h : Host) (w : Wants) (q : Owed) (n : ℕ) (b : Candidate) (best : Option Candidate) (cost : ℤ) → SoFar h w q n best cost → best ≡ Some b → runner_below w q n ≡ Some b.guest
-SoFar_runner h w q n b best cost s e = from_mapped (runner_below w q n) (sym s.best_is ∙ e)
-  where
-    from_mapped : (r : Option ℕ) → option_map (candidate q) r ≡ Some b → r ≡ Some b.guest
-    from_mapped None e = absurd (let z : ◌≡◌ {A = ℕ} 0 1 = cc in omega arith)
-    from_mapped (Some g) e = let same : candidate q g ≡ b = cc in ap (λ (x : Candidate). Some x.guest) same
+  pub runner_of-best : (i : ℕ) (b : Candidate) → best_of l os i ≡ Some b → runner_of l os i ≡ Some b.guest.0
+  runner_of-best i b e = by (runner_of l os i) e
+    where
+      by : (r : Option ℕ) → option_map (candidate (claims l os)) r ≡ Some b → r ≡ Some b.guest.0
+      by None f = absurd (let z : ◌≡◌ {A = ℕ} 0 1 = cc in omega arith)
+      by (Some g) f = let same : candidate (claims l os) g ≡ b = cc in ap (λ (k : Candidate). Some k.guest.0) same

@@ -1,8 +1,8 @@
+pub mod Amounts
 pub mod Beside
 pub mod Carrying
 pub mod Counted
 pub mod Deciding
-pub mod Ranges
-pub mod Readiness
+pub mod Reach
 pub mod Settling
 pub mod Stretching

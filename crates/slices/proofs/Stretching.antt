@@ -34,8 +34,8 @@ module _ (ss ws : List ℕ) (os : List ℤ) where
     pub carries : CarriesOn ss os os₁
 
   -- one slice more, in which r runs
-  pub Given_more : (t : ℕ) (os₁ os₂ : List ℤ) (rs₁ rs₂ : List (Option ℕ)) (r : Option ℕ) → Given t os₁ rs₁ → t < length rs₁ → r ≡ runner (host_in ss) (wants_in ws) (owed_in os₁) → Settles ss ws os₁ os₂ → rs₂ ≡ set rs₁ t r → Given (t + 1) os₂ rs₂
-  Given_more t os₁ os₂ rs₁ rs₂ r s h is settles writes =
+  pub Given_more : (t : ℕ) (os₁ os₂ : List ℤ) (rs : List (Option ℕ)) (r : Option ℕ) → Given t os₁ rs → t < length rs → r ≡ runner (host_in ss) (wants_in ws) (owed_in os₁) → Settles ss ws os₁ os₂ → Given (t + 1) os₂ (set rs t r)
+  Given_more t os₁ os₂ rs r s h is settles =
       let o = owed_at (host_in ss) (λ _. wants_in ws) (owed_in os) t in
       let after : After (t + 1) os₂ =
       λ g b. settles.1 g b ∙ after_slice-Agree (host_in ss) (wants_in ws) (owed_in os₁) o s.owed g b
@@ -43,8 +43,8 @@ module _ (ss ws : List ℕ) (os : List ℤ) where
       record {
         long = settles.0 ∙ s.long;
         owed = after;
-        runners = below_more _ t (λ u b. ap (λ l. get_or l u None) writes ∙ get_or-set_other rs₁ t u r None (λ same. omega arith) ∙ s.runners u b)
-            (ap (λ l. get_or l t None) writes ∙ get_or-set_same rs₁ t r None h ∙ is ∙ runner-Agree (host_in ss) (wants_in ws) (owed_in os₁) o s.owed);
+        runners = below_more _ t (λ u b. get_or-set_other rs t u r None (λ same. omega arith) ∙ s.runners u b)
+            (get_or-set_same rs t r None h ∙ is ∙ runner-Agree (host_in ss) (wants_in ws) (owed_in os₁) o s.owed);
         laws = stretch_laws (t + 1) os₂ after;
         carries = carries_on ss ws os os₂ (t + 1) (settles.0 ∙ s.long) after;
       }

@@ -1,23 +1,28 @@
 -- What the steps of `slice` and `stretch` promise each other; their own contracts name none of these. Assumes nothing: these are definitions.
-use Rattle.std.specs.Prelude.{◌≡◌, ℕ, ◌<◌, ◌≤◌, Bool, true, List, length, ℤ, pos, Some, None, Option, int_lt, slice_index, unsigned_abs}
-use Rattle.guests.specs.Guests.{Host, Wants, Owed, owed_in}
+use Rattle.std.specs.Prelude.{◌≡◌, ℕ, ◌<◌, ◌≤◌, cond, List, length, ℤ, Some, None, Option, int_lt, unsigned_abs}
+use Rattle.guests.specs.Guests.{Host, Wants, Owed, host_in, wants_in, owed_in}
 use Rattle.bounds.specs.Rule.{runner, wanting}
-use Rattle.slices.specs.declared.Candidate.{Candidate}
-use Rattle.slices.specs.declared.Turn.{Turn}
+use Rattle.slices.specs.declared.lists.Candidate.{Candidate}
+use Rattle.slices.specs.declared.lists.Lists.{Lists}
+use Rattle.slices.specs.declared.lists.Turn.{Turn}
 
--- lists that a slice can be given of: a want and an amount for each of at most 64 guests, and amounts as far as any run can take them from lists that are not refused
-pub record Ready (ss ws : List ℕ) (os : List ℤ) : Type 0 where
-  pub few : length ss ≤ 64
-  pub share_most : (g : ℕ) → g < length ss → slice_index ss g ≤ 1000
-  pub wants_long : length ws ≡ length ss
-  pub owed_long : length os ≡ length ss
-  pub owed_most : (g : ℕ) → g < length ss → unsigned_abs (owed_in os g) ≤ 8192000
+abbrev pub host_of : Lists → Host
+host_of l = host_in l.shares.now
 
--- a claim takes the turn from the best candidate so far
-abbrev pub takes_turn : ℤ → Option Candidate → Bool
-takes_turn q None = true
-takes_turn q (Some b) = int_lt b.claim q
+abbrev pub wants_of : Lists → Wants
+wants_of l = wants_in l.wants.now
+
+-- an amount for each guest, as far as any run can take it from amounts that are not refused
+pub record InReach (l : Lists) (os : List ℤ) : Type 0 where
+  pub long : length os ≡ length l.shares.now
+  pub most : (g : ℕ) → g < length l.shares.now → unsigned_abs (owed_in os g) ≤ 8192000
+
+-- a guest takes the turn from the best so far only by a greater claim
+abbrev pub better : Option Candidate → Candidate → Candidate
+better None c = c
+better (Some b) c = cond (int_lt b.claim c.claim) c b
 
 -- the turn that the rule gives
-abbrev pub Decides : Host → Wants → Owed → Turn → Type 0
-Decides h w o t = (runner h w o ≡ Some t.runner) × (t.cost ≡ pos (wanting h w))
+abbrev pub Decides : Lists → Owed → Turn → Type 0
+Decides l o t =
+    (runner (host_of l) (wants_of l) o ≡ Some t.runner) × (t.cost ≡ wanting (host_of l) (wants_of l))

@@ -1,40 +1,23 @@
 // Slices one after the other in which the same guests want to run.
-ghost use Rattle.std.specs.Prelude.{◌≡◌, ◌<◌, length, None, OnErr, slice_set};
+ghost use Rattle.std.specs.Prelude.{◌≡◌, None, OnErr};
 ghost use Rattle.bounds.specs.Promises.{Kept};
 ghost use Rattle.guests.specs.Faults.{Checks, fault};
-ghost use Rattle.guests.specs.Guests.{wants_bits};
 ghost use Rattle.slices.specs.Calls.{CarriesOn};
 ghost use Rattle.slices.specs.Stretches.{Gives, StretchLaws};
 
-use super::{checked, give};
-use guests::{Fault, Runnable};
+use super::lists::Lists;
+use guests::Fault;
 
-// Notes who runs in a slice, in its place.
-fn put(runners: &mut [Option<u64>], slice: usize, runner: Option<u64>)
-    requires { slice < length runners.old }
-    ensures { runners.new ≡ slice_set runners.old slice runner }
+// A slice for each place of `runners`.
+fn run(lists: &Lists, owed: &mut [i64], runners: &mut [Option<u64>])
+    requires accepted { fault lists.now.shares.now lists.now.wants.now owed.old ≡ None }
+    requires carries { CarriesOn lists.now.shares.now owed.old owed.old }
+    ensures gives { Gives lists.now.shares.now lists.now.wants.now owed.old owed.new runners.new }
+    ensures keeps { StretchLaws lists.now.shares.now lists.now.wants.now owed.old owed.new }
+    ensures carries { CarriesOn lists.now.shares.now owed.old owed.new }
 {
-    runners[slice] = runner;
-}
-
-// A slice for each place of `runners`, of lists that are not refused.
-fn run(
-    runnable: Runnable,
-    shares: &[u32],
-    wants: &[u8],
-    owed: &mut [i64],
-    runners: &mut [Option<u64>],
-)
-    requires accepted { fault shares.now wants.now owed.old ≡ None }
-    requires runnable { runnable.bits ≡ wants_bits wants.now }
-    requires carries { CarriesOn shares.now owed.old owed.old }
-    ensures gives { Gives shares.now wants.now owed.old owed.new runners.new }
-    ensures keeps { StretchLaws shares.now wants.now owed.old owed.new }
-    ensures carries { CarriesOn shares.now owed.old owed.new }
-{
-    for slice in 0..runners.len() {
-        let runner = give(runnable, shares, wants, owed);
-        put(runners, slice, runner);
+    for runner in runners.iter_mut() {
+        *runner = lists.give(owed);
     }
 }
 
@@ -57,8 +40,8 @@ pub fn stretch(
     ensures promises { Kept }
 {
     promises_stand();
-    let runnable = checked(shares, wants, owed)?;
-    run(runnable, shares, wants, owed, runners);
+    let lists = Lists::checked(shares, wants, owed)?;
+    run(&lists, owed, runners);
     Ok(())
 }
 
