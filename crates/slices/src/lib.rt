@@ -10,7 +10,7 @@
 #![tactic(auto)]
 
 ghost use Rattle.std.specs.Prelude.{◌≡◌};
-ghost use Rattle.bounds.specs.Examples.{TurnsOfThree, turns_of_three};
+ghost use Rattle.bounds.specs.Examples.{TurnsOfThree};
 ghost use Rattle.guests.specs.Faults.{fault};
 ghost use Rattle.slices.specs.Answers.{SliceKeeps, SliceSays, answer};
 ghost use Rattle.slices.specs.Calls.{CarriesOn};
@@ -54,16 +54,11 @@ pub fn slice(shares: &[u32], wants: &[u8], owed: &mut [i64]) -> Done
     }
 }
 
-// A theorem of the rule, for the example below.
-fn turns_of_three_stand()
-    ensures { TurnsOfThree turns_of_three }
-{}
-
 // Who runs in twelve slices on a host with the shares 1, 2 and 3 where all want all the while: an example to compare with.
+#[tactic(auto, using(bounds::proofs::Three::turns_of_three_run))]
 pub fn turns_of_three() -> [u8; 12]
     ensures { TurnsOfThree result }
 {
-    turns_of_three_stand();
     [2, 1, 0, 2, 1, 2, 2, 1, 0, 2, 1, 2]
 }
 

@@ -1,5 +1,5 @@
 // Lent shares and wants that are not refused, and a slice of them.
-ghost use Rattle.std.specs.Prelude.{◌≡◌, ℕ, ◌+◌, ◌<◌, ◌≤◌, true, length, map, sum, pos, ◌+ℤ◌, ◌-ℤ◌, is_some, if◌then◌else◌, nat_eq, slice_index, unsigned_abs, IfSome};
+ghost use Rattle.std.specs.Prelude.{◌≡◌, ℕ, ◌+◌, ◌<◌, ◌≤◌, true, length, map, sum, pos, ◌+ℤ◌, ◌-ℤ◌, is_some, if◌then◌else◌, nat_eq, slice_index, unsigned_abs, IfSome, None};
 ghost use Rattle.std.specs.List.{zip};
 ghost use Rattle.bounds.specs.Laws.{SliceLaws};
 ghost use Rattle.bounds.specs.Rule.{earned, runner};
@@ -7,6 +7,7 @@ ghost use Rattle.guests.specs.Faults.{Checks, fault};
 ghost use Rattle.guests.specs.Guests.{owed_in, wants_bits};
 ghost use Rattle.slices.specs.Answers.{Settles};
 ghost use Rattle.slices.specs.Calls.{CarriesOn};
+ghost use Rattle.slices.specs.Stretches.{Gives, StretchLaws};
 
 use guests::{Fault, Runnable, check};
 use std::cmp::Reverse;
@@ -125,13 +126,8 @@ impl<'l> Lists<'l> {
         ensures { runner (host_of self.now) (wants_of self.now) (owed_in owed.now) ≡ Some result }
     {
         let mut best = None;
-        for (guest, ((share, want), amount)) in self
-            .shares
-            .iter()
-            .zip(self.wants)
-            .zip(owed)
-            .enumerate()
-        {
+        let side_by_side = self.shares.iter().zip(self.wants).zip(owed);
+        for (guest, ((share, want), amount)) in side_by_side.enumerate() {
             if *want == 1 {
                 best = Candidate::new(guest, *share, *amount).or_better(best);
             }
@@ -166,5 +162,17 @@ impl<'l> Lists<'l> {
         };
         self.settle(turn, owed);
         Some(turn.runner as u64)
+    }
+    // A slice for each place of `runners`, of amounts that are not refused.
+    pub(super) fn run(&self, owed: &mut [i64], runners: &mut [Option<u64>])
+        requires accepted { fault self.now.shares.now self.now.wants.now owed.old ≡ None }
+        requires carries { CarriesOn self.now.shares.now owed.old owed.old }
+        ensures gives { Gives self.now.shares.now self.now.wants.now owed.old owed.new runners.new }
+        ensures keeps { StretchLaws self.now.shares.now self.now.wants.now owed.old owed.new }
+        ensures carries { CarriesOn self.now.shares.now owed.old owed.new }
+    {
+        for runner in runners.iter_mut() {
+            *runner = self.give(owed);
+        }
     }
 }

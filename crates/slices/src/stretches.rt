@@ -8,25 +8,8 @@ ghost use Rattle.slices.specs.Stretches.{Gives, StretchLaws};
 use super::lists::Lists;
 use guests::Fault;
 
-// A slice for each place of `runners`.
-fn run(lists: &Lists, owed: &mut [i64], runners: &mut [Option<u64>])
-    requires accepted { fault lists.now.shares.now lists.now.wants.now owed.old ≡ None }
-    requires carries { CarriesOn lists.now.shares.now owed.old owed.old }
-    ensures gives { Gives lists.now.shares.now lists.now.wants.now owed.old owed.new runners.new }
-    ensures keeps { StretchLaws lists.now.shares.now lists.now.wants.now owed.old owed.new }
-    ensures carries { CarriesOn lists.now.shares.now owed.old owed.new }
-{
-    for runner in runners.iter_mut() {
-        *runner = lists.give(owed);
-    }
-}
-
-// The theorems of every run.
-fn promises_stand()
-    ensures { Kept }
-{}
-
 // Gives as many slices as there are places in `runners`, the same guests wanting to run in each, and notes there who runs.
+#[tactic(auto, using(bounds::proofs::Kept::kept))]
 pub fn stretch(
     shares: &[u32],
     wants: &[u8],
@@ -39,9 +22,8 @@ pub fn stretch(
     ensures carries { CarriesOn shares.now owed.old owed.new }
     ensures promises { Kept }
 {
-    promises_stand();
     let lists = Lists::checked(shares, wants, owed)?;
-    run(&lists, owed, runners);
+    lists.run(owed, runners);
     Ok(())
 }
 
