@@ -1,5 +1,5 @@
 -- Whoever began with nothing owed and has called for slices since can call for more: what is owed stays within the bound, and is never refused.
-use Rattle.std.proofs.Common.{◌≡◌, ℕ, ◌+◌, List, length, ℤ, nat_abs, Some, None, Option, refl, ap, ◌∙◌, arith}
+use Rattle.std.proofs.Common.{◌≡◌, ℕ, ◌+◌, List, [], length, ℤ, nat_abs, Some, None, Option, refl, ap, ◌∙◌, arith}
 use Rattle.bounds.specs.Promises.{Bounded, NeverRefused}
 use Rattle.bounds.specs.Runs.{owed_at}
 use Rattle.bounds.proofs.Bound.{bounded}
@@ -32,3 +32,6 @@ module _ (ss ws : List ℕ) (os os₁ : List ℤ) where
         slices = f.slices + k;
         owed = λ g b. same g b ∙ owed_at-and_then (host_in ss) f.wants f.slices (wants_in ws) (owed_in os) k f.owed g b;
       }
+
+pub unchanged_carries_on : (ss : List ℕ) (os : List ℤ) → CarriesOn ss os os
+unchanged_carries_on ss os = carries_on ss [] os os 0 refl (λ g b. refl)

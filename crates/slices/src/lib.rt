@@ -36,10 +36,7 @@ impl From<Option<u64>> for Done {
     ghost from_gives = { λ runner done. done ≡ answer runner };
 
     fn from(runner: Option<u64>) -> Done {
-        match runner {
-            Some(guest) => Done::Works(guest),
-            None => Done::Idle,
-        }
+        runner.map_or(Done::Idle, Done::Works)
     }
 }
 

@@ -1,5 +1,5 @@
-// Lent shares and wants that are not refused, and a slice of them.
-ghost use Rattle.std.specs.Prelude.{◌≡◌, ℕ, ◌+◌, ◌<◌, ◌≤◌, true, length, map, sum, pos, ◌+ℤ◌, ◌-ℤ◌, is_some, if◌then◌else◌, nat_eq, slice_index, unsigned_abs, IfSome, None};
+// The lists of a slice once they are checked, and the slices that are given of them.
+ghost use Rattle.std.specs.Prelude.{◌≡◌, ℕ, ◌+◌, ◌<◌, ◌≤◌, length, map, sum, pos, ◌+ℤ◌, ◌-ℤ◌, if◌then◌else◌, nat_eq, slice_index, unsigned_abs, IfSome, IsSome, None};
 ghost use Rattle.std.specs.List.{zip};
 ghost use Rattle.bounds.specs.Laws.{SliceLaws};
 ghost use Rattle.bounds.specs.Rule.{earned, runner};
@@ -33,7 +33,7 @@ impl Candidate {
         }
     }
 
-    // The best so far, with a higher guest looked at.
+    // The better of this guest and the best of those below it.
     fn or_better(self, best: Option<Candidate>) -> Option<Candidate>
         requires { IfSome best (λ b. b.guest.0 < self.guest.0) }
         ensures { result ≡ Some (better best self) }
@@ -68,7 +68,7 @@ fn earned(share: u32, want: u8) -> u32
     if want == 1 { share } else { 0 }
 }
 
-// The shares and wants of a slice, and who wants as bits.
+// Lent shares and wants that are not refused, and who wants as bits.
 #[derive(Clone, Copy)]
 pub(super) struct Lists<'l> {
     shares: &'l [u32],
@@ -84,6 +84,7 @@ impl<'l> Lists<'l> {
     ghost use Rattle.slices.specs.Steps.{Decides, InReach, host_of, wants_of};
 
     // The checks. Whatever they answer, a call that changes nothing carries on what it was lent.
+    #[tactic(auto, using(crate::proofs::Carrying::unchanged_carries_on))]
     pub(super) fn checked(
         shares: &'l [u32],
         wants: &'l [u8],
@@ -122,7 +123,7 @@ impl<'l> Lists<'l> {
     // Who runs, where somebody wants to.
     fn runner(&self, owed: &[i64]) -> usize
         requires reach { InReach self.now owed.now }
-        requires some { is_some (runner (host_of self.now) (wants_of self.now) (owed_in owed.now)) ≡ true }
+        requires some { IsSome (runner (host_of self.now) (wants_of self.now) (owed_in owed.now)) }
         ensures { runner (host_of self.now) (wants_of self.now) (owed_in owed.now) ≡ Some result }
     {
         let mut best = None;
@@ -135,6 +136,8 @@ impl<'l> Lists<'l> {
         best.unwrap().guest.0
     }
 
+    // What each guest is owed after the slice of a turn.
+    #[tactic(auto, using(crate::proofs::Amounts::earned_most, crate::proofs::Amounts::owed_read))]
     fn settle(&self, turn: Turn, owed: &mut [i64])
         requires reach { InReach self.now owed.old }
         requires turn { Decides self.now (owed_in owed.old) turn }
@@ -163,6 +166,7 @@ impl<'l> Lists<'l> {
         self.settle(turn, owed);
         Some(turn.runner as u64)
     }
+
     // A slice for each place of `runners`, of amounts that are not refused.
     pub(super) fn run(&self, owed: &mut [i64], runners: &mut [Option<u64>])
         requires accepted { fault self.now.shares.now self.now.wants.now owed.old ≡ None }

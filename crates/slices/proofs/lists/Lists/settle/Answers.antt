@@ -4,15 +4,6 @@ use Rattle.slices.proofs.Amounts.{earned_most, owed_read}
 use Rattle.slices.proofs.Settling.{Settled_more, settled_is}
 use Rattle.slices.proofs.lists.Lists.settle.Goals as goal
 
-pub settled-requires : goal.settled-requires
-settled-requires c =
-    let l = c.args.self.now in
-    let g = c.loop-guest.guest in
-    let h : g < length l.shares.now = omega (arith, c.requires.reach.long) in (
-      (owed_read l c.args.owed.now c.requires.reach g h _ (c.loop-guest.invariant.above g (omega arith))).1,
-      omega (arith, earned_most l g h, c.earned.ensures),
-    )
-
 pub loop-guest-preserved : goal.loop-guest-preserved
 loop-guest-preserved c =
     let l = c.args.self.now in
