@@ -3,7 +3,7 @@ use Rattle.std.proofs.lemmas.Iterator.Consumers.{YieldsList-turn, YieldsList-end
 use Rattle.std.proofs.lemmas.List.{length_push}
 use Rattle.slices.proofs.Amounts.{owed_read}
 use Rattle.slices.proofs.Beside.{Stands, gone_through, stands, length-beside}
-use Rattle.slices.proofs.Deciding.{best_of, best_of-lower, best_of-awake, best_of-asleep, best_of-some, runner_of-best, runner_of}
+use Rattle.slices.proofs.Deciding.{best_of-lower, best_of-awake, best_of-asleep, best_of-some, runner_of-best, runner_of}
 use Rattle.slices.proofs.lists.Lists.runner.Goals as goal
 use Rattle.slices.proofs.lists.Lists.runner.Goals.{In-Some, In-None}
 
@@ -32,23 +32,15 @@ or_better-best-requires c =
 
 pub loop-guest-preserved-then-want-eq1 : goal.loop-guest-preserved-then-want-eq1
 loop-guest-preserved-then-want-eq1 c =
-    let l = c.args.self.now in
-    let os = c.args.owed.now in
-    let i = length c.loop-guest.yielded in
     let here = at (goal.at.loop-guest-preserved-then-want-eq1 c).In-Some in
-    let more = best_of-awake l os i _ _ _ here.1 c.requires.reach c.if-want-eq1.true c.new.result (c.new.ensures.guest ∙ here.0) c.new.ensures.claim in
-    let pushed = ap (best_of l os) (length_push c.loop-guest.yielded (c.in-Some.guest, ((c.in-Some.share, c.in-Some.want), c.in-Some.amount))) in
-    (search rules, search rules, cc)
+    let more = best_of-awake c.args.self.now c.args.owed.now (length c.loop-guest.yielded) _ _ _ here.1 c.requires.reach c.if-want-eq1.true c.new.result (c.new.ensures.guest ∙ here.0) c.new.ensures.claim in
+    (search rules, search rules, rw length_push (cc))
 
 pub loop-guest-preserved : goal.loop-guest-preserved
 loop-guest-preserved c =
-    let l = c.args.self.now in
-    let os = c.args.owed.now in
-    let i = length c.loop-guest.yielded in
     let here = at (goal.at.loop-guest-preserved c).In-Some in
-    let more = best_of-asleep l os i _ _ _ here.1 c.if-want-eq1.false in
-    let pushed = ap (best_of l os) (length_push c.loop-guest.yielded (c.in-Some.guest, ((c.in-Some.share, c.in-Some.want), c.in-Some.amount))) in
-    (search rules, search rules, cc)
+    let more = best_of-asleep c.args.self.now c.args.owed.now (length c.loop-guest.yielded) _ _ _ here.1 c.if-want-eq1.false in
+    (search rules, search rules, rw length_push (cc))
 
 pub unwrap-requires : goal.unwrap-requires
 unwrap-requires c =

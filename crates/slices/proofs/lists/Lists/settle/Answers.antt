@@ -1,6 +1,5 @@
 use Rattle.std.proofs.Common.{◌<◌, length, ◌∙◌, arith, rules, w64, SFits}
 use Rattle.std.proofs.lemmas.Int.{to_z-of_z}
-use Rattle.slices.proofs.Amounts.{earned_most, owed_read}
 use Rattle.slices.proofs.Settling.{Settled_more, settled_is}
 use Rattle.slices.proofs.lists.Lists.settle.Goals as goal
 
