@@ -72,5 +72,5 @@ module _ (l : Lists) (os : List ℤ) where
   runner_of-best i b e = by (runner_of l os i) e
     where
       by : (r : Option ℕ) → option_map (candidate (claims l os)) r ≡ Some b → r ≡ Some b.guest.0
-      by None f = absurd (let z : ◌≡◌ {A = ℕ} 0 1 = cc in omega arith)
+      by None f = cc
       by (Some g) f = let same : candidate (claims l os) g ≡ b = cc in ap (λ (k : Candidate). Some k.guest.0) same
