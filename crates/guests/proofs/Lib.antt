@@ -1,4 +1,3 @@
-pub mod Amounts
 pub mod Failing
 pub mod Masks
 pub mod Sums

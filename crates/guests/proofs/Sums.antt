@@ -1,13 +1,9 @@
 -- Sums over the guests below n: one guest more, bounds, and sums of sums.
-use Rattle.std.proofs.Common.{◌≡◌, ℕ, zero, suc, ◌+◌, ◌*◌, ◌<◌, ◌≤◌, List, length, get_or, take, sum, ℤ, pos, ◌+ℤ◌, ◌-ℤ◌, refl, ap, ◌∙◌, inl, inr, add-one, arith}
+use Rattle.std.proofs.Common.{◌≡◌, ℕ, zero, suc, ◌+◌, ◌*◌, ◌<◌, ◌≤◌, List, [], ◌∷◌, length, get_or, sum, ℤ, pos, ◌+ℤ◌, ◌-ℤ◌, refl, ap, inl, inr, arith}
 use Rattle.std.proofs.lemmas.Int.{ints}
-use Rattle.std.proofs.lemmas.List.{take_all}
-use Rattle.std.proofs.lemmas.List.Sums.{sum_by_more}
+use Rattle.std.proofs.lemmas.List.Sums.{sum_by-cons}
 use Rattle.std.proofs.lemmas.Bool.{cases_eq}
 use Rattle.guests.specs.Guests.{Agree, sum_below, int_sum_below}
-
-pub sum_below_more : (n : ℕ) (f : ℕ → ℕ) → sum_below (n + 1) f ≡ sum_below n f + f n
-sum_below_more n f = ap (λ k. sum_below k f) (add-one n)
 
 pub sum_below_same : (n : ℕ) (f g : ℕ → ℕ) → ((k : ℕ) → k < n → f k ≡ g k) → sum_below n f ≡ sum_below n g
 sum_below_same zero f g same = refl
@@ -38,10 +34,11 @@ pub int_sum_below_moved : (n : ℕ) (o : ℕ → ℤ) (e p : ℕ → ℕ) → in
 int_sum_below_moved zero o e p = omega (arith, ints)
 int_sum_below_moved (suc n) o e p = omega (arith, ints, int_sum_below_moved n o e p)
 
-sum_below-take : (xs : List ℕ) (n : ℕ) → n ≤ length xs → sum_below n (λ g. get_or xs g 0) ≡ sum (take n xs)
-sum_below-take xs zero h = refl
-sum_below-take xs (suc n) h = let more = sum_by_more (λ x. x) xs n 0 (omega arith) in rw (← add-one) (omega (arith, more, sum_below-take xs n (omega arith)))
+pub sum_below_first : (n : ℕ) (f : ℕ → ℕ) → sum_below (suc n) f ≡ f 0 + sum_below n (λ k. f (suc k))
+sum_below_first zero f = omega arith
+sum_below_first (suc n) f = omega (arith, sum_below_first n f)
 
--- over a list, as std sums it
 pub sum_below-get_or : (xs : List ℕ) → sum_below (length xs) (λ g. get_or xs g 0) ≡ sum xs
-sum_below-get_or xs = sum_below-take xs (length xs) (omega arith) ∙ ap sum (take_all (length xs) xs (omega arith))
+sum_below-get_or [] = refl
+sum_below-get_or (x ∷ xs) =
+    omega (arith, sum_below_first (length xs) (λ g. get_or (x ∷ xs) g 0), sum_below-get_or xs, sum_by-cons (λ n. n) x xs)

@@ -1,14 +1,19 @@
 -- What guests earn and are owed is small, and the shares of all who want are the list's sum.
-use Rattle.std.proofs.Common.{◌≡◌, ℕ, suc, zero, ◌+◌, ◌<◌, ◌≤◌, cond, eqb, List, [], ◌∷◌, length, get_or, map, sum, ℤ, nat_abs, refl, ap, ◌∙◌, arith, w64, to_z, of_z}
+use Rattle.std.proofs.Common.{◌≡◌, ℕ, ◌<◌, ◌≤◌, cond, eqb, List, [], ◌∷◌, length, get_or, map, sum, ℤ, nat_abs, refl, ap, ◌∙◌, arith, w64, to_z, of_z}
+use borrow.Author.Differences.{abs_is}
+use Rattle.std.proofs.lemmas.Int.{ints}
 use Rattle.std.proofs.lemmas.Bool.{cond_both}
 use Rattle.std.proofs.lemmas.List.Sums.{sum-map, sum_by-cons}
 use Rattle.std.specs.List.{zip, sum_by}
-use Rattle.guests.specs.Guests.{host_in, wants_in, owed_in, sum_below}
-use Rattle.guests.proofs.Amounts.{as_read}
-use Rattle.guests.proofs.Sums.{sum_below-le}
+use Rattle.guests.specs.Guests.{host_in, wants_in, owed_in}
+use Rattle.guests.proofs.Sums.{sum_below-le, sum_below_first}
 use Rattle.bounds.specs.Rule.{earned, wanting}
 use Rattle.slices.specs.Steps.{InReach, host_of, wants_of}
 use Rattle.slices.specs.declared.lists.Lists.{Lists}
+
+-- an amount that code has read
+as_read : (x : ℤ) → nat_abs x ≤ 8192000 → to_z w64 (of_z w64 x) ≡ x
+as_read x h = omega (arith, ints, abs_is x)
 
 module _ (l : Lists) where
   pub earned_most : (g : ℕ) → g < length l.shares.now → earned (host_of l) (wants_of l) g ≤ 1000
@@ -17,15 +22,10 @@ module _ (l : Lists) where
   pub wanting_most : wanting (host_of l) (wants_of l) ≤ 64000
   wanting_most = omega (arith, sum_below-le (length l.shares.now) 1000 (earned (host_of l) (wants_of l)) earned_most, l.few)
 
-  -- an amount that code has read
   pub owed_read : (os : List ℤ) → InReach l os → (g : ℕ) → g < length l.shares.now → (a : ℤ) → a ≡ owed_in os g → (to_z w64 (of_z w64 a) ≡ owed_in os g) × (nat_abs (to_z w64 (of_z w64 a)) ≤ 8192000)
   owed_read os r g h a e =
-      let read = ap (λ z. to_z w64 (of_z w64 z)) e ∙ as_read (owed_in os g) (omega (arith, r.most g h)) in
+      let read = ap (λ z. to_z w64 (of_z w64 z)) e ∙ as_read (owed_in os g) (r.most g h) in
       (read, rw read (r.most g h))
-
-sum_below_first : (n : ℕ) (f : ℕ → ℕ) → sum_below (suc n) f ≡ f 0 + sum_below n (λ k. f (suc k))
-sum_below_first zero f = omega arith
-sum_below_first (suc n) f = omega (arith, sum_below_first n f)
 
 sum-earned : (ss ws : List ℕ) → length ws ≡ length ss → sum_by (λ (p : ℕ × ℕ). cond (eqb p.1 1) p.0 0) (zip ss ws) ≡ wanting (host_in ss) (wants_in ws)
 sum-earned [] ws e = refl

@@ -5,15 +5,16 @@ use Rattle.bounds.specs.Runs.{owed_at}
 use Rattle.bounds.proofs.Bound.{bounded}
 use Rattle.bounds.proofs.Parts.{and_then, owed_at-and_then}
 use Rattle.bounds.proofs.Refusals.{never_refused}
-use Rattle.guests.specs.Faults.{or_else, shares_fault, wants_fault}
+use Rattle.std.specs.Option.{option_or}
+use Rattle.guests.specs.Faults.{shares_fault, wants_fault}
 use Rattle.guests.specs.Guests.{Agree, host_in, wants_in, owed_in}
 use Rattle.guests.specs.declared.faults.Fault.{Fault}
 use Rattle.slices.specs.Calls.{CarriesOn, FromNothing}
 
-or_else_last : (a b c : Option Fault) → (a ≡ None → c ≡ None) → or_else a (or_else b c) ≡ or_else a b
-or_else_last (Some f) b c none = refl
-or_else_last None (Some f) c none = refl
-or_else_last None None c none = none refl
+option_or_last : (a b c : Option Fault) → (a ≡ None → c ≡ None) → option_or a (option_or b c) ≡ option_or a b
+option_or_last (Some f) b c none = refl
+option_or_last None (Some f) c none = refl
+option_or_last None None c none = none refl
 
 module _ (ss ws : List ℕ) (os os₁ : List ℤ) where
   -- k slices more
@@ -22,7 +23,7 @@ module _ (ss ws : List ℕ) (os os₁ : List ℤ) where
   carries_on k long same = record {
     from_nothing = more;
     bounded = λ f g b. omega (arith, ap nat_abs ((more f).owed g b), bounded (host_in ss) (more f).wants (more f).slices g b);
-    taken = λ f vs. or_else_last (shares_fault ss) (wants_fault (length ss) vs) _ (λ valid. never_refused ss (more f).wants (more f).slices os₁ valid (more f).long (more f).owed);
+    taken = λ f vs. option_or_last (shares_fault ss) (wants_fault (length ss) vs) _ (λ valid. never_refused ss (more f).wants (more f).slices os₁ valid (more f).long (more f).owed);
   }
     where
       more : FromNothing ss os → FromNothing ss os₁

@@ -15,7 +15,7 @@ in_reach_at l os accepted t os₁ long same =
     let s = total (host_of l) in
     let n = length l.shares.now in
     let most = owed_at_most (host_of l) (λ _. wants_of l) (owed_in os) k.owed_sum (λ g b. omega (arith, k.owed_most g b)) t in
-    let few = mul-le s n 64000 64 (total_most l.shares.now l.wants.now os k) k.host.few in
+    let few = mul-le s n 64000 64 (total_most (host_of l) k.host) k.host.few in
     record {
       long = long ∙ k.owed_long;
       most = λ g h. omega (arith, ap nat_abs (same g h), most g h, few);

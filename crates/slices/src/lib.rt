@@ -18,6 +18,7 @@ ghost use Rattle.slices.specs.Calls.{CarriesOn};
 mod lists;
 mod stretches;
 
+use guests::Refusal;
 use lists::Lists;
 pub use stretches::stretch;
 
@@ -47,7 +48,7 @@ pub fn slice(shares: &[u32], wants: &[u8], owed: &mut [i64]) -> Done
 {
     match Lists::checked(shares, wants, owed) {
         Ok(lists) => Done::from(lists.give(owed)),
-        Err(fault) => Done::Refused(fault.refusal().number),
+        Err(fault) => Done::Refused(Refusal::from(fault).number),
     }
 }
 

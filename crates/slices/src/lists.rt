@@ -81,7 +81,7 @@ pub(super) struct Lists<'l> {
 }
 
 impl<'l> Lists<'l> {
-    ghost use Rattle.slices.specs.Steps.{Decides, InReach, host_of, wants_of};
+    ghost use Rattle.slices.specs.Steps.{Accepted, Decides, InReach, host_of, wants_of};
 
     // The checks. Whatever they answer, a call that changes nothing carries on what it was lent.
     #[tactic(auto, using(crate::proofs::Carrying::unchanged_carries_on))]
@@ -90,7 +90,7 @@ impl<'l> Lists<'l> {
         wants: &'l [u8],
         owed: &[i64],
     ) -> Result<Lists<'l>, Fault>
-        ensures checks { Checks (fault shares.now wants.now owed.now) (λ l. (l.shares.now ≡ shares.now) × (l.wants.now ≡ wants.now) × InReach l owed.now) result }
+        ensures checks { Checks (fault shares.now wants.now owed.now) (λ l. (l.shares.now ≡ shares.now) × (l.wants.now ≡ wants.now) × Accepted l owed.now) result }
         ensures carries { CarriesOn shares.now owed.now owed.now }
     {
         let runnable = check(shares, wants, owed)?;
@@ -169,7 +169,7 @@ impl<'l> Lists<'l> {
 
     // A slice for each place of `runners`, of amounts that are not refused.
     pub(super) fn run(&self, owed: &mut [i64], runners: &mut [Option<u64>])
-        requires accepted { fault self.now.shares.now self.now.wants.now owed.old ≡ None }
+        requires accepted { Accepted self.now owed.old }
         requires carries { CarriesOn self.now.shares.now owed.old owed.old }
         ensures gives { Gives self.now.shares.now self.now.wants.now owed.old owed.new runners.new }
         ensures keeps { StretchLaws self.now.shares.now self.now.wants.now owed.old owed.new }

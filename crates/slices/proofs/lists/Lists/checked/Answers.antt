@@ -19,4 +19,4 @@ invariant_of-result-clause-wants_long c = (accepted c).wants_long
 pub returns-clause-checks : goal.returns-clause-checks
 returns-clause-checks c =
     let none = c.in_ok-runnable.ensures.0 in
-    (none, (refl, refl, in_reach_at _ c.args.owed.now none 0 c.args.owed.now refl (λ g b. refl)))
+    (none, (refl, refl, record { no_fault = none; reach = in_reach_at _ c.args.owed.now none 0 c.args.owed.now refl (λ g b. refl) }))

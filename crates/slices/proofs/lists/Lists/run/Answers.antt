@@ -4,7 +4,7 @@ use Rattle.slices.proofs.Stretching.{Given_more}
 use Rattle.slices.proofs.lists.Lists.run.Goals as goal
 
 pub give-requires : goal.give-requires
-give-requires c = in_reach_at c.args.self.now c.args.owed.now c.requires.accepted c.loop-runner.runner-index c.loop-runner.owed c.loop-runner.invariant.long c.loop-runner.invariant.owed
+give-requires c = in_reach_at c.args.self.now c.args.owed.now c.requires.accepted.no_fault c.loop-runner.runner-index c.loop-runner.owed c.loop-runner.invariant.long c.loop-runner.invariant.owed
 
 pub loop-runner-preserved : goal.loop-runner-preserved
 loop-runner-preserved c =
