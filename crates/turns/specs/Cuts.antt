@@ -1,18 +1,13 @@
 -- What stands between the bytes at which a text is cut. Assumes nothing: these are definitions.
 use Rattle.std.specs.Prelude.{◌≡◌, ℕ, cond, List, [], ◌∷◌, length, take, Option, MatchOption, ◌==◌, slice_index}
 use Rattle.std.specs.Borrow.{Bor}
+use Rattle.std.specs.List.{slice_split}
 use Rattle.std.specs.Option.{option_map, unwrap_or}
 use Rattle.turns.specs.declared.lines.Pieces.{Pieces}
 
--- a byte in front of the first piece
-abbrev pub onto : ℕ → List (List ℕ) → List (List ℕ)
-onto b [] = (b ∷ []) ∷ []
-onto b (p ∷ ps) = (b ∷ p) ∷ ps
-
 -- at each byte c: one piece more than there are such bytes
 abbrev pub pieces : ℕ → List ℕ → List (List ℕ)
-pieces c [] = [] ∷ []
-pieces c (b ∷ bs) = cond (b == c) ([] ∷ pieces c bs) (onto b (pieces c bs))
+pieces c bs = slice_split (λ b. b == c) bs
 
 -- a newline ends each line, and the last may lack it
 abbrev pub lines_of : List ℕ → List (List ℕ)

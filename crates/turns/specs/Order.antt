@@ -1,9 +1,10 @@
 -- Which line may stand where. Assumes nothing: these are definitions.
-use Rattle.std.specs.Prelude.{ℕ, Some, None, Option}
+use Rattle.std.specs.Prelude.{◌≡◌, ℕ, Some, None, Option}
 use Rattle.std.specs.Option.{unwrap_or}
 use Rattle.turns.specs.declared.lines.Line.{Line}
 use Rattle.turns.specs.declared.lines.Line.TheVariants as line
 use Rattle.turns.specs.declared.texts.Next.{Next}
+use Rattle.turns.specs.declared.texts.Text.{Text}
 use Rattle.turns.specs.declared.texts.Next.TheVariants.{Shares, OwedOrWants, Wants, Slices}
 
 -- what may come after a line, where the line may come next
@@ -12,6 +13,15 @@ after Shares l = elim l [ line.Shares _ ↦ Some OwedOrWants | line.Owed _ ↦ N
 after OwedOrWants l = elim l [ line.Shares _ ↦ None | line.Owed _ ↦ Some Wants | line.Wants _ ↦ Some Slices | line.Slices _ ↦ None ]
 after Wants l = elim l [ line.Shares _ ↦ None | line.Owed _ ↦ None | line.Wants _ ↦ Some Slices | line.Slices _ ↦ None ]
 after Slices l = elim l [ line.Shares _ ↦ None | line.Owed _ ↦ None | line.Wants _ ↦ None | line.Slices _ ↦ Some Wants ]
+
+-- the first line that can't be read or that nothing may come after, once one more is read
+abbrev pub with_line : Option Next → ℕ → Option ℕ → Option ℕ
+with_line None place unreadable = Some (unwrap_or unreadable place)
+with_line (Some next) place unreadable = unreadable
+
+-- what the lines that could be read say
+abbrev pub SameLists : Text → Text → Type 0
+SameLists s t = (t.shares ≡ s.shares) × (t.owed ≡ s.owed) × (t.stretches ≡ s.stretches)
 
 -- the first line that can't be read, once there are no more than so many lines: shares and slices are then missing
 abbrev pub at_end : Next → ℕ → Option ℕ → Option ℕ

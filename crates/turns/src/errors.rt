@@ -4,8 +4,8 @@ ghost use Rattle.turns.specs.declared.errors.Error.TheVariants.{Lists, Memory, O
 ghost use Rattle.std.specs.Prelude.{◌≡◌};
 
 use guests::{Fault, Refusal};
-use std::alloc::{AllocError, AllocFailed};
-use std::{fmt, io};
+use std::alloc::AllocError;
+use std::{error, fmt, io};
 
 #[derive(Debug, Drop)]
 pub enum Error {
@@ -33,18 +33,29 @@ impl Error {
             _ => None,
         }
     }
+}
 
-    fn sentence(&self) -> &'static str {
+impl fmt::Display for Error {
+    fn fmt<W: fmt::Write>(&self, f: &mut fmt::Formatter<W>) -> fmt::Result {
+        match self.refusal() {
+            Some(Refusal { number, place }) => write!(f, "refused {number} at {place}: ")?,
+            None => write!(f, "turns: ")?,
+        }
         match self {
-            Error::Lists(fault) => fault_sentence(*fault),
-            Error::Line(_) => "this line, counted from 0, can't be read or is missing",
-            Error::TooManyFiles => "there is more than one file to read; turns --help says more",
-            Error::Memory => "there is not enough memory",
-            Error::Input(_) => "the text can't be read",
-            Error::Output(_) => "the output can't be written",
+            Error::Lists(fault) => write!(f, "{}", fault_sentence(*fault)),
+            Error::Line(_) => write!(f, "this line, counted from 0, can't be read or is missing"),
+            Error::TooManyFiles => write!(
+                f,
+                "there is more than one file to read; turns --help says more"
+            ),
+            Error::Memory => write!(f, "there is not enough memory"),
+            Error::Input(e) => write!(f, "the text can't be read: {e}"),
+            Error::Output(e) => write!(f, "the output can't be written: {e}"),
         }
     }
 }
+
+impl error::Error for Error {}
 
 fn fault_sentence(fault: Fault) -> &'static str {
     match fault {
@@ -60,22 +71,6 @@ fn fault_sentence(fault: Fault) -> &'static str {
     }
 }
 
-impl fmt::Display for Error {
-    fn fmt<W: fmt::Write>(&self, f: &mut fmt::Formatter<W>) -> fmt::Result {
-        let sentence = self.sentence();
-        if let Some(refusal) = self.refusal() {
-            let number = refusal.number;
-            let place = refusal.place;
-            return write!(f, "refused {number} at {place}: {sentence}");
-        }
-        match self {
-            Error::Input(e) => write!(f, "turns: {sentence}: {e}"),
-            Error::Output(e) => write!(f, "turns: {sentence}: {e}"),
-            _ => write!(f, "turns: {sentence}"),
-        }
-    }
-}
-
 impl From<Fault> for Error {
     ghost from_gives = { λ fault r. r ≡ Lists fault };
 
@@ -88,14 +83,6 @@ impl From<AllocError> for Error {
     ghost from_gives = { λ _ r. r ≡ Memory };
 
     fn from(_e: AllocError) -> Error {
-        Error::Memory
-    }
-}
-
-impl<T: Drop> From<AllocFailed<T>> for Error {
-    ghost from_gives = { λ _ r. r ≡ Memory };
-
-    fn from(_e: AllocFailed<T>) -> Error {
         Error::Memory
     }
 }

@@ -1,12 +1,11 @@
 // The lines of a text, the words of a line, and what a line says.
-ghost use Rattle.std.specs.Prelude.{◌≡◌, ℕ, ◌+◌, ◌<◌, ◌≤◌, length, IfOk, ◌≢◌, slice_index};
+ghost use Rattle.std.specs.Prelude.{◌≡◌, ◌+◌, ◌≤◌, length, IfSome};
+ghost use Rattle.std.specs.Iterator.{at_most};
 ghost use Rattle.std.specs.Option.{option_map, unwrap_or};
 ghost use Rattle.turns.specs.Cuts.{Cut, lines_of, pieces, to_come};
-ghost use Rattle.turns.specs.declared.lines.Unread.TheVariants.{Memory};
-ghost use Rattle.std.specs.Iterator.{at_most};
 
 use super::numbers::Number;
-use std::alloc::{AllocError, AllocFailed, Global};
+use std::alloc::{AllocError, Global};
 
 // What stands between the bytes `cut` of a text, one piece more than there are such bytes.
 #[derive(Drop)]
@@ -46,52 +45,13 @@ impl<'t> Iterator for Pieces<'t> {
     ghost remaining = { λ s. at_most (unwrap_or (option_map (λ t. length t.now + 1) s.rest) 0) };
 
     fn next(&mut self) -> Option<&'t [u8]> {
-        let rest = self.rest?;
-        let end = find(rest, self.cut);
-        if end < rest.len() {
-            self.rest = Some(&rest[end + 1..]);
-            Some(&rest[0..end])
-        } else {
-            self.rest = None;
-            Some(rest)
-        }
-    }
-}
-
-// The place of the first `byte`, or the length where there is none.
-fn find(bytes: &[u8], byte: u8) -> usize
-    ensures within { result ≤ length bytes.now }
-    ensures before { (k : ℕ) → k < result → slice_index bytes.now k ≢ byte }
-    ensures found { result < length bytes.now → slice_index bytes.now result ≡ byte }
-{
-    for (place, b) in bytes.iter().enumerate() {
-        if *b == byte {
-            return place;
-        }
-    }
-    bytes.len()
-}
-
-// Why there is no line, or no number, to be had.
-#[derive(Clone, Copy, PartialEq, Eq, Debug)]
-pub enum Unread {
-    Unreadable,
-    Memory,
-}
-
-impl From<AllocError> for Unread {
-    ghost from_gives = { λ _ r. r ≡ Memory };
-
-    fn from(_e: AllocError) -> Unread {
-        Unread::Memory
-    }
-}
-
-impl<T: Drop> From<AllocFailed<T>> for Unread {
-    ghost from_gives = { λ _ r. r ≡ Memory };
-
-    fn from(_e: AllocFailed<T>) -> Unread {
-        Unread::Memory
+        let rest = self.rest.take()?;
+        let cut = self.cut;
+        let Some(end) = rest.iter().position(|b| *b == cut) else {
+            return Some(rest);
+        };
+        self.rest = Some(&rest[end + 1..]);
+        Some(&rest[..end])
     }
 }
 
@@ -107,39 +67,34 @@ pub enum Line {
 }
 
 impl Line {
-    pub fn read(heap: Global, line: &[u8]) -> Result<Line, Unread> {
+    // What a line says, if it can be read.
+    pub fn read(heap: Global, line: &[u8]) -> Result<Option<Line>, AllocError> {
         let mut words = Pieces::words(line);
-        match words.next() {
-            Some(b"shares") => Ok(Line::Shares(read_all(heap, words)?)),
-            Some(b"owed") => Ok(Line::Owed(read_all(heap, words)?)),
-            Some(b"wants") => Ok(Line::Wants(read_all(heap, words)?)),
-            Some(b"slices") => Ok(Line::Slices(count(words)?)),
-            _ => Err(Unread::Unreadable),
-        }
+        let line = match words.next() {
+            Some(b"shares") => read_all(heap, words)?.map(Line::Shares),
+            Some(b"owed") => read_all(heap, words)?.map(Line::Owed),
+            Some(b"wants") => read_all(heap, words)?.map(Line::Wants),
+            Some(b"slices") => count(words).map(Line::Slices),
+            _ => None,
+        };
+        Ok(line)
     }
 }
 
-fn read_all<N: Number + Drop>(heap: Global, words: Pieces<'_>) -> Result<Vec<N>, Unread> {
-    let mut all = Vec::new(heap);
-    for word in words {
-        let Some(number) = N::read(word) else {
-            return Err(Unread::Unreadable);
-        };
-        all.push(number)?;
-    }
-    Ok(all)
+fn read_all<N: Number + Drop>(
+    heap: Global,
+    words: Pieces<'_>,
+) -> Result<Option<Vec<N>>, AllocError> {
+    words.map(|word| N::read(word)).collect(heap)
 }
 
 // The one number of a slices line.
-fn count(mut words: Pieces<'_>) -> Result<u64, Unread>
-    ensures { IfOk result (λ n. n ≤ 10000000000) }
+fn count(mut words: Pieces<'_>) -> Option<u64>
+    ensures { IfSome result (λ n. n ≤ 10000000000) }
 {
-    let number = match words.next() {
-        Some(word) => <u64 as Number>::read(word),
-        None => None,
-    };
-    match (number, words.next()) {
-        (Some(number), None) if number <= MAX_SLICES => Ok(number),
-        _ => Err(Unread::Unreadable),
+    let number = <u64 as Number>::read(words.next()?)?;
+    match words.next() {
+        None if number <= MAX_SLICES => Some(number),
+        _ => None,
     }
 }

@@ -31,14 +31,6 @@ For each stretch it prints whose turn each slice is, and what each guest is owed
 
 A text that is refused prints only why, with its number and its place, and ends with status 1.";
 
-// What the arguments ask for, with the text that they name.
-#[derive(Drop)]
-enum Task {
-    Help,
-    Run(Vec<u8>),
-    TooManyFiles,
-}
-
 // What stops the program is said in one line of its own, so main answers a status and not the error.
 fn main(rt: HostRuntime) -> Result<ExitCode, Error> {
     if let Err(error) = turns(&rt) {
@@ -49,39 +41,35 @@ fn main(rt: HostRuntime) -> Result<ExitCode, Error> {
 }
 
 fn turns(rt: &HostRuntime) -> Result<(), Error> {
-    match asked(rt) {
-        Ok(Task::Help) => {
-            println!(rt; "{USAGE}")?;
-            Ok(())
-        }
-        Ok(Task::Run(text)) => {
-            let heap = rt.alloc();
-            let run = Text::read(heap, &text)?.checked(heap)?;
-            let mut out = BufWriter::new(heap, rt.stdout()).map_err(|_| Error::Memory)?;
-            run.print(&mut out)
-        }
-        Ok(Task::TooManyFiles) => Err(Error::TooManyFiles),
-        Err(e) => Err(Error::Input(e)),
+    let file = file_asked(rt)?;
+    if file.as_deref() == Some("--help") {
+        println!(rt; "{USAGE}")?;
+        return Ok(());
+    }
+    let heap = rt.alloc();
+    let text = read(rt, file).map_err(Error::Input)?;
+    let run = Text::read(heap, &text)?.checked(heap)?;
+    let mut out = BufWriter::new(heap, rt.stdout()).map_err(|_| Error::Memory)?;
+    run.print(&mut out)
+}
+
+// The one argument that there may be.
+fn file_asked(rt: &HostRuntime) -> Result<Option<String>, Error> {
+    let mut args = env::args(rt).map_err(Error::Input)?.skip(1);
+    match (args.next(), args.next()) {
+        (_, Some(_)) => Err(Error::TooManyFiles),
+        (file, None) => Ok(file),
     }
 }
 
-fn asked(rt: &HostRuntime) -> io::Result<Task> {
-    let mut args = env::args(rt)?;
-    let _program = args.next();
-    let Some(file) = args.next() else {
-        return Ok(Task::Run(read_stdin(rt)?));
-    };
-    if args.next().is_some() {
-        return Ok(Task::TooManyFiles);
+// The whole file, or of standard input where none is named.
+fn read(rt: &HostRuntime, file: Option<String>) -> io::Result<Vec<u8>> {
+    match file {
+        Some(file) => fs::read(rt, file),
+        None => {
+            let mut text = Vec::new(rt.alloc());
+            rt.stdin().read_to_end(&mut text)?;
+            Ok(text)
+        }
     }
-    if file.as_str() == "--help" {
-        return Ok(Task::Help);
-    }
-    Ok(Task::Run(fs::read(rt, file)?))
-}
-
-fn read_stdin(rt: &HostRuntime) -> io::Result<Vec<u8>> {
-    let mut bytes = Vec::new(rt.alloc());
-    rt.stdin().read_to_end(&mut bytes)?;
-    Ok(bytes)
 }

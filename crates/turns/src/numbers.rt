@@ -1,8 +1,9 @@
 // Numbers as words write them.
-ghost use Rattle.std.specs.Prelude.{◌≡◌, ℕ, ◌-◌, ◌^◌, min, List, if◌then◌else◌, Some, None, Option};
+ghost use Rattle.std.specs.Prelude.{◌≡◌, ℕ, ◌-◌, ◌^◌, min, List, MatchOption, if◌then◌else◌, Some, None, Option, Result};
+ghost use Rattle.std.specs.Result.{result_unwrap_or};
 ghost use Rattle.std.specs.Str.Parse.{digits_value};
 ghost use Rattle.std.specs.Str.{all_ascii_digits};
-ghost use Rattle.turns.specs.Numerals.{down_to, signed, up_to};
+ghost use Rattle.turns.specs.Numerals.{signed, up_to};
 
 // A number that is too large for its type is read as the largest, which every check refuses.
 pub trait Number {
@@ -28,8 +29,7 @@ impl Number for u32 {
     ghost reads = { λ word r. r ≡ up_to (2 ^ 32 - 1) word };
 
     fn read(word: &[u8]) -> Option<u32> {
-        let number = <u64 as Number>::read(word)?;
-        Some(u32::try_from(number).unwrap_or(u32::MAX))
+        at_most(word, u32::MAX)
     }
 }
 
@@ -37,8 +37,7 @@ impl Number for u8 {
     ghost reads = { λ word r. r ≡ up_to (2 ^ 8 - 1) word };
 
     fn read(word: &[u8]) -> Option<u8> {
-        let number = <u64 as Number>::read(word)?;
-        Some(u8::try_from(number).unwrap_or(u8::MAX))
+        at_most(word, u8::MAX)
     }
 }
 
@@ -46,26 +45,25 @@ impl Number for i64 {
     ghost reads = { λ word r. r ≡ signed word };
 
     fn read(word: &[u8]) -> Option<i64> {
-        if let Some((b'-', size)) = word.split_first() {
-            return below_zero(size);
+        match word {
+            [b'-', b'0', ..] => None,
+            [b'-', size @ ..] => {
+                let size = <u64 as Number>::read(size)?;
+                Some(0_i64.saturating_sub_unsigned(size))
+            }
+            _ => at_most(word, i64::MAX),
         }
-        let number = <u64 as Number>::read(word)?;
-        Some(i64::try_from(number).unwrap_or(i64::MAX))
     }
 }
 
-// The number whose digits stand after a minus.
-fn below_zero(size: &[u8]) -> Option<i64>
-    ensures { result ≡ down_to (2 ^ 63) size.now }
+// The number that a word stands for, or the most where that does not fit its type.
+fn at_most<N: TryFrom<u64> + Drop>(word: &[u8], most: N) -> Option<N>
+where
+    N::Error: Drop,
+    ensures { MatchOption (up_to (2 ^ 64 - 1) word.now) (result ≡ None) (λ n. (r : Result N N.Error) × N.try_from_gives n r × (result ≡ Some (result_unwrap_or r most))) }
 {
-    if !size.is_empty() && size[0] == b'0' {
-        return None;
-    }
-    let size = <u64 as Number>::read(size)?;
-    match i64::try_from(size) {
-        Ok(size) => Some(-size),
-        Err(_) => Some(i64::MIN),
-    }
+    let number = <u64 as Number>::read(word)?;
+    Some(N::try_from(number).unwrap_or(most))
 }
 
 // The number that digits write, leading zeros or not.

@@ -1,10 +1,11 @@
 // Stretches of slices on a host, run one after the other and printed.
-ghost use Rattle.std.specs.Prelude.{◌≤◌};
+ghost use Rattle.std.specs.Iterator.{IsFinite};
 
 use super::errors::Error;
 use guests::Plan;
 use slices::stretch;
-use std::io::Write;
+use std::fmt::{self, Display};
+use std::io::{self, Write};
 
 // So many slices in which the same guests want to run.
 #[derive(Drop)]
@@ -46,10 +47,10 @@ impl Run {
     // From amounts that no run from nothing leads to, what is owed can pass its limit on the way. Then the text is refused
     // before anything of it is printed.
     fn rehearse(&self) -> Result<(), Error> {
-        let mut owed = self.owed.clone()?;
-        if is_nothing(&owed) {
+        if self.owed.iter().all(|amount| *amount == 0) {
             return Ok(());
         }
+        let mut owed = self.owed.clone()?;
         for part in self.stretches.iter() {
             for _ in 0..part.slices {
                 stretch(&self.shares, &part.wants, &mut owed, &mut [None])?;
@@ -59,57 +60,63 @@ impl Run {
     }
 }
 
-fn is_nothing(owed: &[i64]) -> bool {
-    for amount in owed {
-        if *amount != 0 {
-            return false;
-        }
-    }
-    true
-}
-
 // Runs a stretch, and prints who works in each of its slices.
 fn print_works<W: Write>(plan: &mut Plan, part: &Stretch, out: &mut W) -> Result<(), Error> {
+    let mut runners = [None; AT_ONCE as usize];
     write!(out, "works")?;
-    let mut left = part.slices;
-    while left > 0 {
-        let count = left.min(AT_ONCE);
-        print_some(plan, &part.wants, count as usize, out)?;
-        left -= count;
+    for _ in 0..part.slices / AT_ONCE {
+        print_some(plan, &part.wants, &mut runners, out)?;
+    }
+    // No slice is left to be given where the stretch has whole parts alone.
+    let rest = &mut runners[..(part.slices % AT_ONCE) as usize];
+    if !rest.is_empty() {
+        print_some(plan, &part.wants, rest, out)?;
     }
     writeln!(out, "")?;
     Ok(())
 }
 
+// As many slices as there are places in `runners`.
 fn print_some<W: Write>(
     plan: &mut Plan,
     wants: &[u8],
-    count: usize,
+    runners: &mut [Option<u64>],
     out: &mut W,
-) -> Result<(), Error>
-    requires { count ≤ 1024 }
-{
-    let mut runners = [None; AT_ONCE as usize];
-    let given = &mut runners[0..count];
-    stretch(plan.shares, wants, plan.owed, given)?;
-    print_runners(given, out)
-}
-
-fn print_runners<W: Write>(runners: &[Option<u64>], out: &mut W) -> Result<(), Error> {
-    for runner in runners {
-        match runner {
-            Some(guest) => write!(out, " {guest}")?,
-            None => write!(out, " nobody")?,
-        }
-    }
+) -> Result<(), Error> {
+    stretch(plan.shares, wants, plan.owed, runners)?;
+    print_each(runners.iter().map(|runner| Works(*runner)), out)?;
     Ok(())
 }
 
 fn print_owed<W: Write>(plan: &Plan, out: &mut W) -> Result<(), Error> {
     write!(out, "owed")?;
-    for amount in plan.owed.iter() {
-        write!(out, " {amount}")?;
-    }
+    print_each(plan.owed.iter(), out)?;
     writeln!(out, "")?;
+    Ok(())
+}
+
+// Who works in a slice.
+#[derive(Clone, Copy)]
+struct Works(Option<u64>);
+
+impl Display for Works {
+    fn fmt<W: fmt::Write>(&self, f: &mut fmt::Formatter<W>) -> fmt::Result {
+        match self.0 {
+            Some(guest) => write!(f, "{guest}"),
+            None => write!(f, "nobody"),
+        }
+    }
+}
+
+// Each word with a space before it.
+fn print_each<W: Write, I: Iterator + Drop>(words: I, out: &mut W) -> io::Result<()>
+where
+    I::Item: Display + Drop,
+    requires can { I.can_next words }
+    requires ends { IsFinite (I.remaining words) }
+{
+    for word in words {
+        write!(out, " {word}")?;
+    }
     Ok(())
 }

@@ -1,13 +1,12 @@
 // The text as a value, what it is refused by, and what is left to run of one that stands.
 ghost use Rattle.guests.specs.Faults.{Checks};
-ghost use Rattle.std.specs.Prelude.{◌≡◌, IfOk, Some, None, vec_items, MatchResult};
-ghost use Rattle.std.specs.Option.{option_map, unwrap_or};
-ghost use Rattle.turns.specs.Order.{after, at_end};
+ghost use Rattle.std.specs.Prelude.{◌≡◌, IfOk, Some, vec_items};
+ghost use Rattle.std.specs.Option.{ForNone, option_map, unwrap_or};
+ghost use Rattle.turns.specs.Order.{SameLists, after, at_end, with_line};
 ghost use Rattle.turns.specs.Checking.{Checked, lists_fault, owed_given, stretches_fault};
-ghost use Rattle.turns.specs.declared.lines.Unread.TheVariants.{Unreadable};
 
 use super::errors::Error;
-use super::lines::{Line, Pieces, Unread};
+use super::lines::{Line, Pieces};
 use super::runs::{Run, Stretch};
 use guests::{Fault, Totals};
 use std::alloc::{AllocError, Global};
@@ -30,9 +29,25 @@ enum Next {
     Slices,
 }
 
+impl Next {
+    // What may come after a line, where the line may come next.
+    fn after(self, line: &Line) -> Option<Next>
+        ensures { result ≡ after self line.now }
+    {
+        match (self, line) {
+            (Next::Shares, Line::Shares(_)) => Some(Next::OwedOrWants),
+            (Next::OwedOrWants, Line::Owed(_)) => Some(Next::Wants),
+            (Next::OwedOrWants | Next::Wants, Line::Wants(_)) => Some(Next::Slices),
+            (Next::Slices, Line::Slices(_)) => Some(Next::Wants),
+            _ => None,
+        }
+    }
+}
+
 // Reads a text line by line.
 #[derive(Drop)]
 struct Reader {
+    heap: Global,
     text: Text,
     next: Next,
 }
@@ -40,6 +55,7 @@ struct Reader {
 impl Reader {
     fn new(heap: Global) -> Reader {
         Reader {
+            heap,
             text: Text {
                 shares: None,
                 owed: None,
@@ -50,47 +66,28 @@ impl Reader {
         }
     }
 
-    fn read(&mut self, heap: Global, place: usize, line: &[u8]) -> Result<(), Error> {
-        let taken = match Line::read(heap, line) {
-            Ok(line) => self.take(line),
-            Err(unread) => Err(unread),
-        };
-        match taken {
-            Ok(()) => Ok(()),
-            Err(Unread::Memory) => Err(Error::Memory),
-            Err(Unread::Unreadable) => {
+    fn read(&mut self, place: usize, line: &[u8]) -> Result<(), AllocError> {
+        match Line::read(self.heap, line)? {
+            Some(line) => self.take(place, line),
+            None => {
                 self.text.pass_over(place);
                 Ok(())
             }
         }
     }
 
-    // Takes a line that stands in its place.
-    fn take(&mut self, line: Line) -> Result<(), Unread>
-        ensures place { MatchResult result (λ _. after self.old.next line ≡ Some self.new.next) (λ e. (e ≡ Unreadable → after self.old.next line ≡ None)) }
-        ensures same { MatchResult result (λ _. self.new.text.unreadable ≡ self.old.text.unreadable) (λ e. (e ≡ Unreadable → self.new ≡ self.old)) }
+    // Takes a line that stands in its place, and passes over any other.
+    fn take(&mut self, place: usize, line: Line) -> Result<(), AllocError>
+        ensures next { IfOk result (λ _. self.new.next ≡ unwrap_or (after self.old.next line) self.old.next) }
+        ensures unreadable { IfOk result (λ _. self.new.text.unreadable ≡ with_line (after self.old.next line) place self.old.text.unreadable) }
+        ensures passed_over { ForNone (after self.old.next line) (SameLists self.old.text self.new.text) }
     {
-        match (self.next, line) {
-            (Next::Shares, Line::Shares(shares)) => {
-                self.text.shares = Some(shares);
-                self.next = Next::OwedOrWants;
+        match self.next.after(&line) {
+            Some(next) => {
+                self.text.keep(line)?;
+                self.next = next;
             }
-            (Next::OwedOrWants, Line::Owed(owed)) => {
-                self.text.owed = Some(owed);
-                self.next = Next::Wants;
-            }
-            (Next::OwedOrWants | Next::Wants, Line::Wants(wants)) => {
-                // Its slices are counted by the next line.
-                self.text.stretches.push(Stretch { wants, slices: 0 })?;
-                self.next = Next::Slices;
-            }
-            (Next::Slices, Line::Slices(slices)) => {
-                if let Some(stretch) = self.text.stretches.last_mut() {
-                    stretch.slices = slices;
-                }
-                self.next = Next::Wants;
-            }
-            _ => return Err(Unread::Unreadable),
+            None => self.text.pass_over(place),
         }
         Ok(())
     }
@@ -102,7 +99,7 @@ impl Reader {
         ensures owed { result.owed ≡ self.text.owed }
         ensures stretches { result.stretches ≡ self.text.stretches }
     {
-        let Reader { mut text, next } = self;
+        let Reader { mut text, next, .. } = self;
         if matches!(next, Next::Shares | Next::Slices) {
             text.pass_over(lines);
         }
@@ -111,12 +108,29 @@ impl Reader {
 }
 
 impl Text {
-    pub fn read(heap: Global, bytes: &[u8]) -> Result<Text, Error> {
+    pub fn read(heap: Global, bytes: &[u8]) -> Result<Text, AllocError> {
         let mut reader = Reader::new(heap);
         for (place, line) in Pieces::lines(bytes).enumerate() {
-            reader.read(heap, place, line)?;
+            reader.read(place, line)?;
         }
         Ok(reader.end(Pieces::lines(bytes).count()))
+    }
+
+    fn keep(&mut self, line: Line) -> Result<(), AllocError>
+        ensures { self.new.unreadable ≡ self.old.unreadable }
+    {
+        match line {
+            Line::Shares(shares) => self.shares = Some(shares),
+            Line::Owed(owed) => self.owed = Some(owed),
+            // Its slices are counted by the next line.
+            Line::Wants(wants) => self.stretches.push(Stretch { wants, slices: 0 })?,
+            Line::Slices(slices) => {
+                if let Some(stretch) = self.stretches.last_mut() {
+                    stretch.slices = slices;
+                }
+            }
+        }
+        Ok(())
     }
 
     // Of the lines that can't be read the first is kept.

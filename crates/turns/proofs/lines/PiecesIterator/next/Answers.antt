@@ -1,28 +1,30 @@
-use Rattle.std.proofs.Common.{◌≡◌, ℕ, ◌+◌, ◌-◌, List, [], ◌∷◌, length, take, drop, Option, unwrap_or, ap, ◌∙◌, add-one, arith, Bor, rules}
-use native.Mathlib.Nat.{sub-zero}
+use Rattle.std.proofs.Common.{rules, ◌≡◌, ◌+◌, ◌≤◌, length, ℕ, ◌-◌, ◌==◌, Option, List, Bor, [], ◌∷◌, ◌∙◌, ap, sym, unwrap_or, take, drop}
+use borrow.Author.Tests.{tests}
+use Rattle.std.proofs.lemmas.Iterator.{YieldsList-from_slice}
+use Rattle.std.proofs.lemmas.Iterator.Search.{position_from_yields_List}
 use Rattle.std.proofs.lemmas.List.{take_rest}
+use Rattle.std.specs.List.{position}
 use Rattle.std.specs.Option.{option_map}
-use Rattle.turns.specs.Cuts.{pieces}
-use Rattle.turns.proofs.Cutting.{pieces_cut, pieces_whole}
+use Rattle.turns.specs.Cuts.{pieces, to_come}
 use Rattle.turns.proofs.lines.PiecesIterator.next.Goals as goal
+use Rattle.turns.proofs.Cutting.{cut_at, split_position}
 
-pub returns-then-end-rest : goal.returns-then-end-rest
-returns-then-end-rest c =
-    let cut = c.args.self.now.cut in
+pub returns-in_default-clause-steps : goal.returns-in_default-clause-steps
+returns-in_default-clause-steps c =
+    let is_cut = λ (b : ℕ). b == c.args.self.now.cut in
     let rest = c.in_ok-rest.rest.now in
-    let end = c.find-end.result in
-    let first : pieces cut rest ≡ take (end - 0) rest ∷ pieces cut (take (length rest - (end + 1)) (drop (end + 1) rest)) =
-    rw (sub-zero, take_rest, add-one) (pieces_cut cut rest end c.find-end.ensures.before c.if-end-rest.true (c.find-end.ensures.found c.if-end-rest.true)) in
-    record {
-      steps = ap (λ (o : Option (Bor (List ℕ))). unwrap_or (option_map (λ t. pieces cut t.now) o) []) c.in_ok-rest.was ∙ first;
-      goes = search rules;
-    }
+    let found : c.position.result ≡ position is_cut rest =
+    position_from_yields_List is_cut _ _ c.position.result c.position.ensures.ran (YieldsList-from_slice rest cc) (λ x b q k. search (rules, tests)) in
+    let first : pieces c.args.self.now.cut rest ≡ rest ∷ [] = split_position is_cut rest ∙ ap (cut_at is_cut rest) (sym found ∙ c.in_default.is) in
+    search (rules, first)
 
-pub returns-else-end-rest : goal.returns-else-end-rest
-returns-else-end-rest c =
-    let cut = c.args.self.now.cut in
+pub returns-clause-steps : goal.returns-clause-steps
+returns-clause-steps c =
+    let is_cut = λ (b : ℕ). b == c.args.self.now.cut in
     let rest = c.in_ok-rest.rest.now in
-    record {
-      steps = ap (λ (o : Option (Bor (List ℕ))). unwrap_or (option_map (λ t. pieces cut t.now) o) []) c.in_ok-rest.was ∙ pieces_whole cut rest (λ k lt. c.find-end.ensures.before k (omega (arith, c.if-end-rest.false)));
-      goes = search rules;
-    }
+    let end = c.in-Some.end in
+    let found : c.position.result ≡ position is_cut rest =
+    position_from_yields_List is_cut _ _ c.position.result c.position.ensures.ran (YieldsList-from_slice rest cc) (λ x b q k. search (rules, tests)) in
+    let first : pieces c.args.self.now.cut rest ≡ take end rest ∷ pieces c.args.self.now.cut (take (length rest - (end + 1)) (drop (end + 1) rest)) =
+    rw take_rest (split_position is_cut rest ∙ ap (cut_at is_cut rest) (sym found ∙ c.in-Some.is)) in
+    search (rules, first)
