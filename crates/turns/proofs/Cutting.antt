@@ -1,5 +1,5 @@
 -- The first piece of a text that is cut, by what `position` finds: what stands before the first cut, or all of it.
-use Rattle.std.proofs.Common.{◌≡◌, ℕ, ◌+◌, ◌<◌, true, false, Bool, not, cond, List, [], ◌∷◌, length, take, drop, Some, None, Option, refl, sym, ap, add-one, one-add, ◌∙◌, arith, ◌==◌, nat_lt}
+use Rattle.std.proofs.Common.{◌≡◌, ℕ, ◌+◌, true, false, Bool, not, cond, List, [], ◌∷◌, length, take, drop, Some, None, Option, refl, sym, ap, add-one, one-add, ◌∙◌, arith, nat_lt}
 use Prim.Native.Nat.compare
 use Rattle.std.proofs.lemmas.Bool.{lt-ltb}
 use Rattle.std.specs.List.{onto_first, position, position_or_len, slice_split}

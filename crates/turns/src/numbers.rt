@@ -1,9 +1,10 @@
 // Numbers as words write them.
-ghost use Rattle.std.specs.Prelude.{◌≡◌, ℕ, ◌-◌, ◌^◌, min, List, MatchOption, if◌then◌else◌, Some, None, Option, Result};
+ghost use Rattle.std.specs.Prelude.{◌≡◌, ℕ, ◌-◌, ◌^◌, List, MatchBool, Some, None, Option, Result};
 ghost use Rattle.std.specs.Result.{result_unwrap_or};
-ghost use Rattle.std.specs.Str.Parse.{digits_value};
 ghost use Rattle.std.specs.Str.{all_ascii_digits};
-ghost use Rattle.turns.specs.Numerals.{signed, up_to};
+ghost use Rattle.turns.specs.Numerals.{plain, signed, up_to};
+
+use std::str::{self, FromStr};
 
 // A number that is too large for its type is read as the largest, which every check refuses.
 pub trait Number {
@@ -13,15 +14,11 @@ pub trait Number {
         ensures { reads word.now result };
 }
 
-impl Number for u64 {
-    ghost reads = { λ word r. r ≡ up_to (2 ^ 64 - 1) word };
+impl Number for u8 {
+    ghost reads = { λ word r. r ≡ up_to (2 ^ 8 - 1) word };
 
-    fn read(word: &[u8]) -> Option<u64> {
-        match word {
-            [] => None,
-            [b'0', _, ..] => None,
-            _ => digits(word),
-        }
+    fn read(word: &[u8]) -> Option<u8> {
+        up_to(word, u8::MAX)
     }
 }
 
@@ -29,15 +26,15 @@ impl Number for u32 {
     ghost reads = { λ word r. r ≡ up_to (2 ^ 32 - 1) word };
 
     fn read(word: &[u8]) -> Option<u32> {
-        at_most(word, u32::MAX)
+        up_to(word, u32::MAX)
     }
 }
 
-impl Number for u8 {
-    ghost reads = { λ word r. r ≡ up_to (2 ^ 8 - 1) word };
+impl Number for u64 {
+    ghost reads = { λ word r. r ≡ up_to (2 ^ 64 - 1) word };
 
-    fn read(word: &[u8]) -> Option<u8> {
-        at_most(word, u8::MAX)
+    fn read(word: &[u8]) -> Option<u64> {
+        up_to(word, u64::MAX)
     }
 }
 
@@ -51,33 +48,40 @@ impl Number for i64 {
                 let size = <u64 as Number>::read(size)?;
                 Some(0_i64.saturating_sub_unsigned(size))
             }
-            _ => at_most(word, i64::MAX),
+            _ => {
+                let size = <u64 as Number>::read(word)?;
+                Some(0_i64.saturating_add_unsigned(size))
+            }
         }
     }
 }
 
-// The number that a word stands for, or the most where that does not fit its type.
-fn at_most<N: TryFrom<u64> + Drop>(word: &[u8], most: N) -> Option<N>
+// The number that a word writes, or `top` where that is too large for its type.
+fn up_to<N: FromStr + Drop>(word: &[u8], top: N) -> Option<N>
 where
-    N::Error: Drop,
-    ensures { MatchOption (up_to (2 ^ 64 - 1) word.now) (result ≡ None) (λ n. (r : Result N N.Error) × N.try_from_gives n r × (result ≡ Some (result_unwrap_or r most))) }
+    N::Err: Drop,
+    ensures { MatchBool (plain word.now) ((r : Result N N.Err) × N.from_str_gives word.now r × (result ≡ Some (result_unwrap_or r top))) (result ≡ None) }
 {
-    let number = <u64 as Number>::read(word)?;
-    Some(N::try_from(number).unwrap_or(most))
+    if !is_plain(word) {
+        return None;
+    }
+    let digits = str::from_utf8(word).ok()?;
+    Some(digits.parse().unwrap_or(top))
 }
 
-// The number that digits write, leading zeros or not.
-fn digits(word: &[u8]) -> Option<u64>
-    ensures { result ≡ (if all_ascii_digits word.now then Some (min (digits_value 10 word.now) (2 ^ 64 - 1)) else None) }
+// Digits alone, and no 0 before another.
+fn is_plain(word: &[u8]) -> bool
+    ensures { result ≡ plain word.now }
 {
-    let mut number = 0u64;
-    for b in word {
-        if !b.is_ascii_digit() {
-            return None;
-        }
-        number = number
-            .saturating_mul(10)
-            .saturating_add(u64::from(*b - b'0'));
+    match word {
+        [] => false,
+        [b'0', _, ..] => false,
+        _ => all_digits(word),
     }
-    Some(number)
+}
+
+fn all_digits(word: &[u8]) -> bool
+    ensures { result ≡ all_ascii_digits word.now }
+{
+    word.iter().all(|b| b.is_ascii_digit())
 }

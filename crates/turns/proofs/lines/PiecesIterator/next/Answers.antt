@@ -1,11 +1,10 @@
-use Rattle.std.proofs.Common.{rules, ◌≡◌, ◌+◌, ◌≤◌, length, ℕ, ◌-◌, ◌==◌, Option, List, Bor, [], ◌∷◌, ◌∙◌, ap, sym, unwrap_or, take, drop}
+use Rattle.std.proofs.Common.{rules, ◌≡◌, ◌+◌, length, ℕ, ◌-◌, ◌==◌, [], ◌∷◌, ◌∙◌, ap, sym, take, drop}
 use borrow.Author.Tests.{tests}
 use Rattle.std.proofs.lemmas.Iterator.{YieldsList-from_slice}
 use Rattle.std.proofs.lemmas.Iterator.Search.{position_from_yields_List}
 use Rattle.std.proofs.lemmas.List.{take_rest}
 use Rattle.std.specs.List.{position}
-use Rattle.std.specs.Option.{option_map}
-use Rattle.turns.specs.Cuts.{pieces, to_come}
+use Rattle.turns.specs.Cuts.{pieces}
 use Rattle.turns.proofs.lines.PiecesIterator.next.Goals as goal
 use Rattle.turns.proofs.Cutting.{cut_at, split_position}
 
