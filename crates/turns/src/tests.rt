@@ -6,50 +6,37 @@ use std::process::Abort;
 use std::test::Fail;
 
 fn refusal(heap: Global, text: &[u8]) -> Result<Option<Refusal>, Fail> {
-    match Text::read(heap, text)?.checked(heap) {
-        Ok(_) => Ok(None),
-        Err(error) => Ok(error.refusal()),
-    }
+    let run = Text::read(heap, text)?.checked(heap);
+    Ok(run.err().and_then(|error| error.refusal()))
 }
 
 fn check_refused(
-    rt: &impl Abort,
-    heap: Global,
+    rt: &(impl Abort + AllocGlobal),
     text: &[u8],
     number: u64,
     place: u64,
 ) -> Result<(), Fail> {
-    assert_eq!(rt; refusal(heap, text)?, Some(Refusal { number, place }));
+    assert_eq!(rt; refusal(rt.alloc(), text)?, Some(Refusal { number, place }));
     Ok(())
 }
 
 #[test]
 fn shares_are_refused_first(rt: HostRuntime) -> Result<(), Fail> {
-    let heap = rt.alloc();
-    check_refused(&rt, heap, b"shares", 1, 0)?;
-    check_refused(&rt, heap, b"shares 1 1001 0\nwants 2", 1, 1)?;
-    check_refused(
-        &rt,
-        heap,
-        b"what\nshares 1 999999999999999999999999999999",
-        1,
-        1,
-    )
+    check_refused(&rt, b"shares", 1, 0)?;
+    check_refused(&rt, b"shares 1 1001 0\nwants 2", 1, 1)?;
+    check_refused(&rt, b"what\nshares 1 999999999999999999999999999999", 1, 1)
 }
 
 #[test]
 fn then_wants(rt: HostRuntime) -> Result<(), Fail> {
-    let heap = rt.alloc();
     check_refused(
         &rt,
-        heap,
         b"shares 1 2\nwants 1\nslices 1\nwants 2 2\nslices 1\n",
         2,
         1,
     )?;
     check_refused(
         &rt,
-        heap,
         b"shares 1 2\nowed 1 1\nwants 1 1\nslices 1\nwants 0 256",
         2,
         1,
@@ -58,22 +45,19 @@ fn then_wants(rt: HostRuntime) -> Result<(), Fail> {
 
 #[test]
 fn then_what_is_owed(rt: HostRuntime) -> Result<(), Fail> {
-    let heap = rt.alloc();
-    check_refused(&rt, heap, b"shares 1 2\nowed 1", 3, 1)?;
-    check_refused(&rt, heap, b"shares 1 2\nowed 5 -6\n\n", 3, 1)?;
-    check_refused(&rt, heap, b"shares 1 2\nowed 5 -4\n", 3, 64)?;
-    check_refused(&rt, heap, b"shares 1\nowed -99999999999999999999", 3, 0)
+    check_refused(&rt, b"shares 1 2\nowed 1", 3, 1)?;
+    check_refused(&rt, b"shares 1 2\nowed 5 -6\n\n", 3, 1)?;
+    check_refused(&rt, b"shares 1 2\nowed 5 -4\n", 3, 64)?;
+    check_refused(&rt, b"shares 1\nowed -99999999999999999999", 3, 0)
 }
 
 #[test]
 fn then_lines_that_cannot_be_read(rt: HostRuntime) -> Result<(), Fail> {
-    let heap = rt.alloc();
-    check_refused(&rt, heap, b"", 4, 0)?;
-    check_refused(&rt, heap, b"shares 01\nshares 1\nshares 1\n", 4, 0)?;
-    check_refused(&rt, heap, b"shares 1 1\nowed 0 -0\nwants 1  1\n", 4, 1)?;
+    check_refused(&rt, b"", 4, 0)?;
+    check_refused(&rt, b"shares 01\nshares 1\nshares 1\n", 4, 0)?;
+    check_refused(&rt, b"shares 1 1\nowed 0 -0\nwants 1  1\n", 4, 1)?;
     check_refused(
         &rt,
-        heap,
         b"shares 1\nwants 1\nslices 10000000001\nslices 1",
         4,
         2,
@@ -82,9 +66,8 @@ fn then_lines_that_cannot_be_read(rt: HostRuntime) -> Result<(), Fail> {
 
 #[test]
 fn a_missing_line_is_one_past_the_last(rt: HostRuntime) -> Result<(), Fail> {
-    let heap = rt.alloc();
-    check_refused(&rt, heap, b"shares 1\nwants 1", 4, 2)?;
-    check_refused(&rt, heap, b"shares 1\nwants 1\nwants 1\nslices 1\n", 4, 2)
+    check_refused(&rt, b"shares 1\nwants 1", 4, 2)?;
+    check_refused(&rt, b"shares 1\nwants 1\nwants 1\nslices 1\n", 4, 2)
 }
 
 #[test]
