@@ -39,16 +39,15 @@ impl fmt::Display for Error {
     fn fmt<W: fmt::Write>(&self, f: &mut fmt::Formatter<W>) -> fmt::Result {
         match self.refusal() {
             Some(Refusal { number, place }) => write!(f, "refused {number} at {place}: ")?,
-            None => write!(f, "turns: ")?,
+            None => f.write_str("turns: ")?,
         }
         match self {
-            Error::Lists(fault) => write!(f, "{}", fault_sentence(*fault)),
-            Error::Line(_) => write!(f, "this line, counted from 0, can't be read or is missing"),
-            Error::TooManyFiles => write!(
-                f,
-                "there is more than one file to read; turns --help says more"
-            ),
-            Error::Memory => write!(f, "there is not enough memory"),
+            Error::Lists(fault) => f.write_str(fault_sentence(*fault)),
+            Error::Line(_) => f.write_str("this line, counted from 0, can't be read or is missing"),
+            Error::TooManyFiles => {
+                f.write_str("there is more than one file to read; turns --help says more")
+            }
+            Error::Memory => f.write_str("there is not enough memory"),
             Error::Input(e) => write!(f, "the text can't be read: {e}"),
             Error::Output(e) => write!(f, "the output can't be written: {e}"),
         }

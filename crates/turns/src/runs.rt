@@ -102,8 +102,8 @@ struct Works(Option<u64>);
 impl Display for Works {
     fn fmt<W: fmt::Write>(&self, f: &mut fmt::Formatter<W>) -> fmt::Result {
         match self.0 {
-            Some(guest) => write!(f, "{guest}"),
-            None => write!(f, "nobody"),
+            Some(guest) => guest.fmt(f),
+            None => f.write_str("nobody"),
         }
     }
 }
