@@ -7,7 +7,8 @@ ghost use Rattle.turns.specs.Cuts.{Cut, lines_of, pieces, to_come};
 use super::numbers::Number;
 use std::alloc::{AllocError, Global};
 
-// What stands between the bytes `cut` of a text, one piece more than there are such bytes.
+// What stands between the bytes `cut` of a text, one piece more than there are such bytes. It is not the library's `Split`,
+// since `lines` and `words` could not name the type of its closure.
 #[derive(Drop)]
 pub struct Pieces<'t> {
     rest: Option<&'t [u8]>,

@@ -1,11 +1,9 @@
 // Stretches of slices on a host, run one after the other and printed.
-ghost use Rattle.std.specs.Iterator.{IsFinite};
-
 use super::errors::Error;
 use guests::Plan;
 use slices::stretch;
-use std::fmt::{self, Display};
-use std::io::{self, Write};
+use std::fmt;
+use std::io::Write;
 
 // So many slices in which the same guests want to run.
 #[derive(Drop)]
@@ -67,7 +65,7 @@ fn print_works<W: Write>(plan: &mut Plan, part: &Stretch, out: &mut W) -> Result
     for _ in 0..part.slices / AT_ONCE {
         print_some(plan, &part.wants, &mut runners, out)?;
     }
-    // No slice is left to be given where the stretch has whole parts alone.
+    // No slices are not asked for: the call would check what is owed, before no slice.
     let rest = &mut runners[..(part.slices % AT_ONCE) as usize];
     if !rest.is_empty() {
         print_some(plan, &part.wants, rest, out)?;
@@ -84,39 +82,30 @@ fn print_some<W: Write>(
     out: &mut W,
 ) -> Result<(), Error> {
     stretch(plan.shares, wants, plan.owed, runners)?;
-    print_each(runners.iter().map(|runner| Works(*runner)), out)?;
+    for runner in runners.iter() {
+        write!(out, " {}", Runner(*runner))?;
+    }
     Ok(())
 }
 
 fn print_owed<W: Write>(plan: &Plan, out: &mut W) -> Result<(), Error> {
     write!(out, "owed")?;
-    print_each(plan.owed.iter(), out)?;
+    for amount in plan.owed.iter() {
+        write!(out, " {amount}")?;
+    }
     writeln!(out, "")?;
     Ok(())
 }
 
-// Who works in a slice.
+// Who runs in a slice, if anybody wants to.
 #[derive(Clone, Copy)]
-struct Works(Option<u64>);
+struct Runner(Option<u64>);
 
-impl Display for Works {
+impl fmt::Display for Runner {
     fn fmt<W: fmt::Write>(&self, f: &mut fmt::Formatter<W>) -> fmt::Result {
         match self.0 {
-            Some(guest) => guest.fmt(f),
+            Some(guest) => write!(f, "{guest}"),
             None => f.write_str("nobody"),
         }
     }
-}
-
-// Each word with a space before it.
-fn print_each<W: Write, I: Iterator + Drop>(words: I, out: &mut W) -> io::Result<()>
-where
-    I::Item: Display + Drop,
-    requires can { I.can_next words }
-    requires ends { IsFinite (I.remaining words) }
-{
-    for word in words {
-        write!(out, " {word}")?;
-    }
-    Ok(())
 }

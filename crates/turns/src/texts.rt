@@ -159,15 +159,16 @@ impl Text {
             return Err(Error::Line(unreadable.unwrap_or(0)));
         };
         let owed = owed_or_nothing(heap, owed, shares.len())?;
-        check_lists(&shares, &stretches, &owed)?;
-        if let Some(place) = unreadable {
-            return Err(Error::Line(place));
-        }
-        Ok(Run {
+        let run = Run {
             shares,
             owed,
             stretches,
-        })
+        };
+        check_lists(&run)?;
+        match unreadable {
+            Some(place) => Err(Error::Line(place)),
+            None => Ok(run),
+        }
     }
 }
 
@@ -185,12 +186,12 @@ fn owed_or_nothing(
     }
 }
 
-fn check_lists(shares: &[u32], stretches: &[Stretch], owed: &[i64]) -> Result<(), Fault>
-    ensures { Checks (lists_fault shares.now stretches.now owed.now) (λ _. Unit {0}) result }
+fn check_lists(run: &Run) -> Result<(), Fault>
+    ensures { Checks (lists_fault run.now.shares.items run.now.stretches.items run.now.owed.items) (λ _. Unit {0}) result }
 {
-    let totals = Totals::of(shares)?;
-    check_stretches(totals, stretches)?;
-    totals.check_owed(owed)
+    let totals = Totals::of(&run.shares)?;
+    check_stretches(totals, &run.stretches)?;
+    totals.check_owed(&run.owed)
 }
 
 fn check_stretches(totals: Totals, stretches: &[Stretch]) -> Result<(), Fault>
