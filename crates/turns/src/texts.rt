@@ -95,9 +95,7 @@ impl Reader {
     // After so many lines the text may lack its shares, or the slices of its last stretch.
     fn end(self, lines: usize) -> Text
         ensures unreadable { result.unreadable ≡ at_end self.next lines self.text.unreadable }
-        ensures shares { result.shares ≡ self.text.shares }
-        ensures owed { result.owed ≡ self.text.owed }
-        ensures stretches { result.stretches ≡ self.text.stretches }
+        ensures same { SameLists self.text result }
     {
         let Reader { mut text, next, .. } = self;
         if matches!(next, Next::Shares | Next::Slices) {
@@ -136,9 +134,7 @@ impl Text {
     // Of the lines that can't be read the first is kept.
     fn pass_over(&mut self, place: usize)
         ensures first { self.new.unreadable ≡ Some (unwrap_or self.old.unreadable place) }
-        ensures shares { self.new.shares ≡ self.old.shares }
-        ensures owed { self.new.owed ≡ self.old.owed }
-        ensures stretches { self.new.stretches ≡ self.old.stretches }
+        ensures same { SameLists self.old self.new }
     {
         if self.unreadable.is_none() {
             self.unreadable = Some(place);
