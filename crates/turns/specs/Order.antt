@@ -19,7 +19,7 @@ abbrev pub with_line : Option Next → ℕ → Option ℕ → Option ℕ
 with_line None place unreadable = Some (unwrap_or unreadable place)
 with_line (Some next) place unreadable = unreadable
 
--- what the lines that could be read say
+-- what the lines that could be read say is the same
 abbrev pub SameLists : Text → Text → Type 0
 SameLists s t = (t.shares ≡ s.shares) × (t.owed ≡ s.owed) × (t.stretches ≡ s.stretches)
 

@@ -41,20 +41,20 @@ fn main(rt: HostRuntime) -> Result<ExitCode, Error> {
 }
 
 fn turns(rt: &HostRuntime) -> Result<(), Error> {
-    let file = file_asked(rt)?;
+    let file = only_argument(rt)?;
     if file.as_deref() == Some("--help") {
         println!(rt; "{USAGE}")?;
         return Ok(());
     }
     let heap = rt.alloc();
-    let text = read(rt, file).map_err(Error::Input)?;
+    let text = read_text(rt, file).map_err(Error::Input)?;
     let run = Text::read(heap, &text)?.checked(heap)?;
     let mut out = BufWriter::new(heap, rt.stdout()).map_err(|_| Error::Memory)?;
     run.print(&mut out)
 }
 
-// The one argument that there may be.
-fn file_asked(rt: &HostRuntime) -> Result<Option<String>, Error> {
+// There may be one.
+fn only_argument(rt: &HostRuntime) -> Result<Option<String>, Error> {
     let mut args = env::args(rt).map_err(Error::Input)?.skip(1);
     match (args.next(), args.next()) {
         (_, Some(_)) => Err(Error::TooManyFiles),
@@ -62,8 +62,8 @@ fn file_asked(rt: &HostRuntime) -> Result<Option<String>, Error> {
     }
 }
 
-// The whole file, or of standard input where none is named.
-fn read(rt: &HostRuntime, file: Option<String>) -> io::Result<Vec<u8>> {
+// The file, or standard input where none is named.
+fn read_text(rt: &HostRuntime, file: Option<String>) -> io::Result<Vec<u8>> {
     match file {
         Some(file) => fs::read(rt, file),
         None => {

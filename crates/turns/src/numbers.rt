@@ -65,7 +65,7 @@ where
     if !is_plain(word) {
         return None;
     }
-    let digits = str::from_utf8(word).ok()?;
+    let digits = str::from_utf8(word).unwrap();
     Some(digits.parse().unwrap_or(top))
 }
 

@@ -65,7 +65,7 @@ fn print_works<W: Write>(plan: &mut Plan, part: &Stretch, out: &mut W) -> Result
     for _ in 0..part.slices / AT_ONCE {
         print_some(plan, &part.wants, &mut runners, out)?;
     }
-    // No slices are not asked for: the call would check what is owed, before no slice.
+    // A call for no slices would still check what is owed, and could refuse it.
     let rest = &mut runners[..(part.slices % AT_ONCE) as usize];
     if !rest.is_empty() {
         print_some(plan, &part.wants, rest, out)?;
