@@ -1,5 +1,5 @@
 -- Which line may stand where. Assumes nothing: these are definitions.
-use Rattle.std.specs.Prelude.{◌≡◌, ℕ, Some, None, Option}
+use Rattle.std.specs.Prelude.{◌≡◌, ℕ, [], ◌∷◌, ◌++◌, Some, None, Option, vec_items, vec_len}
 use Rattle.std.specs.Option.{unwrap_or}
 use Rattle.turns.specs.declared.lines.Line.{Line}
 use Rattle.turns.specs.declared.lines.Line.TheVariants as line
@@ -22,6 +22,13 @@ with_line (Some next) place unreadable = unreadable
 -- what the lines that could be read say is the same
 abbrev pub SameLists : Text → Text → Type 0
 SameLists s t = (t.shares ≡ s.shares) × (t.owed ≡ s.owed) × (t.stretches ≡ s.stretches)
+
+-- what a line adds to a text: a stretch has its wants first, and its slices once they are read
+abbrev pub Keeps : Text → Line → Text → Type 0
+Keeps s (line.Shares v) t = (t.shares ≡ Some v) × (t.owed ≡ s.owed) × (t.stretches ≡ s.stretches)
+Keeps s (line.Owed v) t = (t.shares ≡ s.shares) × (t.owed ≡ Some v) × (t.stretches ≡ s.stretches)
+Keeps s (line.Wants v) t = (t.shares ≡ s.shares) × (t.owed ≡ s.owed) × (vec_items t.stretches ≡ vec_items s.stretches ++ record { wants = v; slices = 0 } ∷ [])
+Keeps s (line.Slices n) t = (t.shares ≡ s.shares) × (t.owed ≡ s.owed) × (vec_len t.stretches ≡ vec_len s.stretches)
 
 -- the first line that can't be read, once there are no more than so many lines: shares and slices are then missing
 abbrev pub at_end : Next → ℕ → Option ℕ → Option ℕ

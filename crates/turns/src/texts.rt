@@ -1,8 +1,8 @@
 // The text as a value, what it is refused by, and what is left to run of one that stands.
 ghost use Rattle.guests.specs.Faults.{Checks};
 ghost use Rattle.std.specs.Prelude.{◌≡◌, IfOk, Some, vec_items};
-ghost use Rattle.std.specs.Option.{ForNone, option_map, unwrap_or};
-ghost use Rattle.turns.specs.Order.{SameLists, after, at_end, with_line};
+ghost use Rattle.std.specs.Option.{IfNone, OnSome, option_map, unwrap_or};
+ghost use Rattle.turns.specs.Order.{Keeps, SameLists, after, at_end, with_line};
 ghost use Rattle.turns.specs.Checking.{Checked, lists_fault, owed_given, stretches_fault};
 
 use super::errors::Error;
@@ -80,7 +80,8 @@ impl Reader {
     fn take(&mut self, place: usize, line: Line) -> Result<(), AllocError>
         ensures next { IfOk result (λ _. self.new.next ≡ unwrap_or (after self.old.next line) self.old.next) }
         ensures unreadable { IfOk result (λ _. self.new.text.unreadable ≡ with_line (after self.old.next line) place self.old.text.unreadable) }
-        ensures passed_over { ForNone (after self.old.next line) (SameLists self.old.text self.new.text) }
+        ensures taken { IfOk result (λ _. OnSome (after self.old.next line) (Keeps self.old.text line self.new.text)) }
+        ensures passed_over { IfNone (after self.old.next line) (SameLists self.old.text self.new.text) }
     {
         match self.next.after(&line) {
             Some(next) => {
@@ -115,7 +116,8 @@ impl Text {
     }
 
     fn keep(&mut self, line: Line) -> Result<(), AllocError>
-        ensures { self.new.unreadable ≡ self.old.unreadable }
+        ensures unreadable { self.new.unreadable ≡ self.old.unreadable }
+        ensures keeps { IfOk result (λ _. Keeps self.old line self.new) }
     {
         match line {
             Line::Shares(shares) => self.shares = Some(shares),
