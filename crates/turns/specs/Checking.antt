@@ -1,9 +1,9 @@
 -- What a text is refused by: the first that applies to the whole of it. Assumes nothing: these are definitions.
 use Rattle.std.specs.Prelude.{◌≡◌, ℕ, ◌⊎◌, List, [], ◌∷◌, length, replicate, ℤ, pos, Some, None, Ok, Err, vec_items, Option, Result}
-use Rattle.guests.specs.Faults.{or_else, shares_fault, wants_fault, owed_fault}
+use Rattle.guests.specs.Faults.{shares_fault, wants_fault, owed_fault}
 use Rattle.guests.specs.Guests.{host_in, total}
 use Rattle.guests.specs.declared.faults.Fault.{Fault}
-use Rattle.std.specs.Option.{option_map, unwrap_or}
+use Rattle.std.specs.Option.{option_map, option_or, unwrap_or}
 use Rattle.turns.specs.declared.errors.Error.{Error}
 use Rattle.turns.specs.declared.errors.Error.TheVariants.{Lists, Line, Memory}
 use Rattle.turns.specs.declared.runs.Run.{Run}
@@ -13,11 +13,11 @@ use Rattle.turns.specs.declared.texts.Text.{Text}
 -- of the wants of n guests, line after line
 abbrev pub stretches_fault : ℕ → List Stretch → Option Fault
 stretches_fault n [] = None
-stretches_fault n (s ∷ ss) = or_else (wants_fault n (vec_items s.wants)) (stretches_fault n ss)
+stretches_fault n (s ∷ ss) = option_or (wants_fault n (vec_items s.wants)) (stretches_fault n ss)
 
 abbrev pub lists_fault : List ℕ → List Stretch → List ℤ → Option Fault
 lists_fault ss stretches os =
-    or_else (shares_fault ss) (or_else (stretches_fault (length ss) stretches) (owed_fault (length ss) (total (host_in ss)) os))
+    option_or (shares_fault ss) (option_or (stretches_fault (length ss) stretches) (owed_fault (length ss) (total (host_in ss)) os))
 
 -- the owed line, or nothing for each of n guests
 abbrev pub owed_given : ℕ → Option (List ℤ) → List ℤ

@@ -25,7 +25,7 @@ impl Error {
         ensures { result ≡ refusal_of self.now }
     {
         match self {
-            Error::Lists(fault) => Some(fault.refusal()),
+            Error::Lists(fault) => Some(Refusal::from(*fault)),
             Error::Line(place) => Some(Refusal {
                 number: 4,
                 place: *place as u64,
@@ -38,11 +38,11 @@ impl Error {
 impl fmt::Display for Error {
     fn fmt<W: fmt::Write>(&self, f: &mut fmt::Formatter<W>) -> fmt::Result {
         match self.refusal() {
-            Some(Refusal { number, place }) => write!(f, "refused {number} at {place}: ")?,
+            Some(refusal) => write!(f, "{refusal}: ")?,
             None => f.write_str("turns: ")?,
         }
         match self {
-            Error::Lists(fault) => f.write_str(fault_sentence(*fault)),
+            Error::Lists(fault) => write!(f, "{fault}"),
             Error::Line(_) => f.write_str("this line, counted from 0, can't be read or is missing"),
             Error::TooManyFiles => {
                 f.write_str("there is more than one file to read; turns --help says more")
@@ -55,20 +55,6 @@ impl fmt::Display for Error {
 }
 
 impl error::Error for Error {}
-
-fn fault_sentence(fault: Fault) -> &'static str {
-    match fault {
-        Fault::NoGuests => "the shares line needs at least one guest",
-        Fault::TooManyGuests => "there can be at most 64 guests",
-        Fault::ShareOutOfRange(_) => "this guest's share must be 1 to 1000",
-        Fault::WantsLength(_) => "a wants line needs one number for each guest",
-        Fault::WantAboveOne(_) => "this guest's want must be 0 or 1",
-        Fault::OwedLength(_) => "the owed line needs one number for each guest",
-        Fault::OwedOutOfRange(_) =>
-            "what this guest is owed, or owes, must be less than all shares together times the number of guests",
-        Fault::OwedSumNotZero => "what is owed must add up to 0",
-    }
-}
 
 impl From<Fault> for Error {
     ghost from_gives = { λ fault r. r ≡ Lists fault };
