@@ -71,3 +71,20 @@ impl From<Fault> for Refusal {
         }
     }
 }
+
+#[cfg(test)]
+mod tests {
+    use super::*;
+    use std::test::Fail;
+
+    #[test]
+    fn what_is_said_of_a_refusal(rt: HostRuntime) -> Result<(), Fail> {
+        let fault = Fault::OwedSumNotZero;
+        let said = format!(in rt.alloc(); "{}: {fault}", Refusal::from(fault))?;
+        assert_eq!(rt;
+            said.as_str(),
+            "refused 3 at 64: what is owed must add up to 0"
+        );
+        Ok(())
+    }
+}

@@ -17,10 +17,10 @@ as_read x h = omega (arith, ints, abs_is x)
 
 module _ (l : Lists) where
   pub earned_most : (g : ℕ) → g < length l.shares.now → earned (host_of l) (wants_of l) g ≤ 1000
-  earned_most g h = cond_both (wants_of l g) (get_or l.shares.now g 0) 0 (λ n. n ≤ 1000) (λ _. l.share_most g h) (λ _. omega arith)
+  earned_most g h = cond_both (wants_of l g) (get_or l.shares.now g 0) 0 (λ n. n ≤ 1000) (λ _. l.valid.share_most g h) (λ _. omega arith)
 
   pub wanting_most : wanting (host_of l) (wants_of l) ≤ 64000
-  wanting_most = omega (arith, sum_below-le (length l.shares.now) 1000 (earned (host_of l) (wants_of l)) earned_most, l.few)
+  wanting_most = omega (arith, sum_below-le (length l.shares.now) 1000 (earned (host_of l) (wants_of l)) earned_most, l.valid.few)
 
   pub owed_read : (os : List ℤ) → InReach l os → (g : ℕ) → g < length l.shares.now → (a : ℤ) → a ≡ owed_in os g → (to_z w64 (of_z w64 a) ≡ owed_in os g) × (nat_abs (to_z w64 (of_z w64 a)) ≤ 8192000)
   owed_read os r g h a e =

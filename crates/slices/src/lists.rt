@@ -4,7 +4,7 @@ ghost use Rattle.std.specs.List.{zip};
 ghost use Rattle.bounds.specs.Laws.{SliceLaws};
 ghost use Rattle.bounds.specs.Rule.{earned, runner};
 ghost use Rattle.guests.specs.Faults.{Checks, fault};
-ghost use Rattle.guests.specs.Guests.{owed_in, wants_bits};
+ghost use Rattle.guests.specs.Guests.{Valid, host_in, owed_in, wants_bits};
 ghost use Rattle.slices.specs.Answers.{Settles};
 ghost use Rattle.slices.specs.Calls.{CarriesOn};
 ghost use Rattle.slices.specs.Stretches.{Gives, StretchLaws};
@@ -74,8 +74,7 @@ pub(super) struct Lists<'l> {
     shares: &'l [u32],
     wants: &'l [u8],
     runnable: Runnable,
-    ghost few: { length shares.now ≤ 64 },
-    ghost share_most: { (g : ℕ) → g < length shares.now → slice_index shares.now g ≤ 1000 },
+    ghost valid: { Valid (host_in shares.now) },
     ghost wants_long: { length wants.now ≡ length shares.now },
     ghost bits: { runnable.bits ≡ wants_bits wants.now },
 }

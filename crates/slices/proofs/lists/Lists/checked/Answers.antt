@@ -7,11 +7,8 @@ use Rattle.slices.proofs.lists.Lists.checked.Goals.{In_ok-runnable}
 accepted : (c : In_ok-runnable) → Taken c.args.shares.now c.args.wants.now c.args.owed.now
 accepted c = taken c.args.shares.now c.args.wants.now c.args.owed.now c.in_ok-runnable.ensures.0
 
-pub invariant_of-result-clause-few : goal.invariant_of-result-clause-few
-invariant_of-result-clause-few c = (accepted c).host.few
-
-pub invariant_of-result-clause-share_most : goal.invariant_of-result-clause-share_most
-invariant_of-result-clause-share_most c = (accepted c).host.share_most
+pub invariant_of-result-clause-valid : goal.invariant_of-result-clause-valid
+invariant_of-result-clause-valid c = (accepted c).host
 
 pub invariant_of-result-clause-wants_long : goal.invariant_of-result-clause-wants_long
 invariant_of-result-clause-wants_long c = (accepted c).wants_long

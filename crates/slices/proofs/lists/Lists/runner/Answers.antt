@@ -23,7 +23,7 @@ pub new-requires : goal.new-requires
 new-requires c =
     let l = c.args.self.now in
     let here = (at (goal.at.new-requires c).In-Some).1 in
-    ((owed_read l c.args.owed.now c.requires.reach _ here.within _ here.owed).1, rw here.share (l.share_most _ here.within))
+    ((owed_read l c.args.owed.now c.requires.reach _ here.within _ here.owed).1, rw here.share (l.valid.share_most _ here.within))
 
 pub or_better-best-requires : goal.or_better-best-requires
 or_better-best-requires c =
