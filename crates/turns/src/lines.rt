@@ -86,7 +86,14 @@ fn read_all<N: Number + Drop>(
     heap: Global,
     words: Pieces<'_>,
 ) -> Result<Option<Vec<N>>, AllocError> {
-    words.map(|word| N::read(word)).collect(heap)
+    let mut all = Vec::new(heap);
+    for word in words {
+        let Some(number) = N::read(word) else {
+            return Ok(None);
+        };
+        all.push(number)?;
+    }
+    Ok(Some(all))
 }
 
 // The one number of a slices line.
