@@ -1,6 +1,6 @@
 // Stretches of slices on a host, run one after the other and printed.
 use super::errors::Error;
-use guests::Plan;
+use guests::{Fault, Plan};
 use slices::stretch;
 use std::fmt;
 use std::io::Write;
@@ -50,9 +50,17 @@ impl Run {
         }
         let mut owed = self.owed.clone()?;
         for part in self.stretches.iter() {
-            for _ in 0..part.slices {
-                stretch(&self.shares, &part.wants, &mut owed, &mut [None])?;
-            }
+            part.rehearse(&self.shares, &mut owed)?;
+        }
+        Ok(())
+    }
+}
+
+impl Stretch {
+    // Slice by slice, since what is owed is checked once in a call.
+    fn rehearse(&self, shares: &[u32], owed: &mut [i64]) -> Result<(), Fault> {
+        for _ in 0..self.slices {
+            stretch(shares, &self.wants, owed, &mut [None])?;
         }
         Ok(())
     }
