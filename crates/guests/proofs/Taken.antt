@@ -10,6 +10,9 @@ use Rattle.guests.specs.declared.faults.Fault.TheVariants.{ShareOutOfRange, Owed
 use Rattle.guests.proofs.Failing.{option_or_none, each_from_first_failing}
 use Rattle.guests.proofs.Sums.{sum_below-le}
 
+unsigned_abs-zero : (z : ℤ) → nat_abs z ≡ 0 → z ≡ pos 0
+unsigned_abs-zero z none = omega (arith, ints)
+
 pub record Taken (ss ws : List ℕ) (os : List ℤ) : Type 0 where
   pub host : Valid (host_in ss)
   pub wants_long : length ws ≡ length ss
@@ -46,5 +49,5 @@ taken ss ws os e =
       wants_long = grind (arith, nat_tests);
       owed_long = grind (arith, nat_tests);
       owed_most = λ g h. grind (arith, nat_tests, each g (pos 0));
-      owed_sum = grind (arith, ints, nat_tests);
+      owed_sum = unsigned_abs-zero _ (grind (arith, nat_tests));
     }

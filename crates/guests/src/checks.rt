@@ -4,14 +4,16 @@ ghost use Rattle.guests.specs.Guests.{wants_bits};
 ghost use Rattle.std.specs.Prelude.{◌≡◌};
 
 use super::faults::Fault;
-use super::shares::Shares;
+use super::totals::Totals;
 use super::wanting::Runnable;
 
 pub fn check(shares: &[u32], wants: &[u8], owed: &[i64]) -> Result<Runnable, Fault>
     ensures { Checks (fault shares.now wants.now owed.now) (λ w. w.bits ≡ wants_bits wants.now) result }
 {
-    let shares = Shares::of(shares)?;
-    shares.check(wants, owed)
+    let totals = Totals::of(shares)?;
+    let runnable = totals.runnable(wants)?;
+    totals.check_owed(owed)?;
+    Ok(runnable)
 }
 
 #[cfg(test)]

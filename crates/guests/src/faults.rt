@@ -3,8 +3,6 @@ ghost use Rattle.guests.specs.Numbers.{number_of, place_of};
 ghost use Rattle.std.specs.Prelude.{◌≡◌};
 
 use super::plans::Plan;
-use std::error::Error;
-use std::fmt;
 
 // The guest or the length that a fault holds is its place.
 #[derive(Clone, Copy, PartialEq, Eq, Debug)]
@@ -19,36 +17,11 @@ pub enum Fault {
     OwedSumNotZero,
 }
 
-// A sentence that a person can act on.
-impl fmt::Display for Fault {
-    fn fmt<W: fmt::Write>(&self, f: &mut fmt::Formatter<W>) -> fmt::Result {
-        f.write_str(match self {
-            Fault::NoGuests => "the shares line needs at least one guest",
-            Fault::TooManyGuests => "there can be at most 64 guests",
-            Fault::ShareOutOfRange(_) => "this guest's share must be 1 to 1000",
-            Fault::WantsLength(_) => "a wants line needs one number for each guest",
-            Fault::WantAboveOne(_) => "this guest's want must be 0 or 1",
-            Fault::OwedLength(_) => "the owed line needs one number for each guest",
-            Fault::OwedOutOfRange(_) =>
-                "what this guest is owed, or owes, must be less than all shares together times the number of guests",
-            Fault::OwedSumNotZero => "what is owed must add up to 0",
-        })
-    }
-}
-
-impl Error for Fault {}
-
 // The numbers are those of the text format.
 #[derive(Clone, Copy, PartialEq, Eq, Debug)]
 pub struct Refusal {
     pub number: u64,
     pub place: u64,
-}
-
-impl fmt::Display for Refusal {
-    fn fmt<W: fmt::Write>(&self, f: &mut fmt::Formatter<W>) -> fmt::Result {
-        write!(f, "refused {} at {}", self.number, self.place)
-    }
 }
 
 impl From<Fault> for Refusal {
@@ -69,22 +42,5 @@ impl From<Fault> for Refusal {
             number,
             place: place as u64,
         }
-    }
-}
-
-#[cfg(test)]
-mod tests {
-    use super::*;
-    use std::test::Fail;
-
-    #[test]
-    fn what_is_said_of_a_refusal(rt: HostRuntime) -> Result<(), Fail> {
-        let fault = Fault::OwedSumNotZero;
-        let said = format!(in rt.alloc(); "{}: {fault}", Refusal::from(fault))?;
-        assert_eq!(rt;
-            said.as_str(),
-            "refused 3 at 64: what is owed must add up to 0"
-        );
-        Ok(())
     }
 }

@@ -4,11 +4,11 @@
 mod checks;
 mod faults;
 mod plans;
-mod shares;
+mod totals;
 mod wanting;
 
 pub use checks::check;
 pub use faults::{Fault, Refusal};
 pub use plans::Plan;
-pub use shares::Shares;
+pub use totals::Totals;
 pub use wanting::Runnable;

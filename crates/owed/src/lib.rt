@@ -10,8 +10,6 @@ ghost use Rattle.std.specs.List.Sorted.{IsPermutation};
 
 use guests::Plan;
 use std::cmp::Reverse;
-use std::error::Error;
-use std::fmt;
 
 // Why guests can't be put in order in a list.
 #[derive(Clone, Copy, PartialEq, Eq, Debug)]
@@ -20,17 +18,6 @@ pub enum OrderFault {
     // The list has not one place for each guest.
     OtherLength,
 }
-
-impl fmt::Display for OrderFault {
-    fn fmt<W: fmt::Write>(&self, f: &mut fmt::Formatter<W>) -> fmt::Result {
-        match self {
-            OrderFault::TooManyGuests => write!(f, "more than {} guests", Plan::MAX_GUESTS),
-            OrderFault::OtherLength => write!(f, "the list has not one place for each guest"),
-        }
-    }
-}
-
-impl Error for OrderFault {}
 
 // What a guest is owed: nothing where the list has no such guest.
 fn owed_to(owed: &[i64], guest: u8) -> i64

@@ -1,5 +1,5 @@
 -- Shares, wants and what is owed, gone through side by side: what stands at each place.
-use Rattle.std.proofs.Common.{◌≡◌, ℕ, ◌<◌, List, length, get_or, ℤ, pos, ap, ◌∙◌, arith}
+use Rattle.std.proofs.Common.{◌≡◌, ℕ, ◌<◌, ◌≤◌, List, length, get_or, drop, ℤ, pos, None, inl, inr, ap, ◌∙◌, arith, length-drop}
 use Rattle.std.proofs.iter.Yields.{fronts}
 use Rattle.std.proofs.lemmas.Iterator.{YieldsList, YieldsList-from_slice, YieldsList-from_zip, zips}
 use Rattle.std.proofs.lemmas.Iterator.Consumers.{YieldsList-from_enumerate}
@@ -19,6 +19,33 @@ use Rattle.slices.specs.declared.lists.Lists.{Lists}
 abbrev pub SideBySide : Type 0
 SideBySide = Enumerate (Zip (Zip (Iter ℕ) (Iter ℕ)) (Iter ℤ))
 
+-- what is left of each list
+abbrev pub shares_left : SideBySide → List ℕ
+shares_left s = iter_rest (zip_first (zip_first (enumerate_source s)))
+
+abbrev pub wants_left : SideBySide → List ℕ
+wants_left s = iter_rest (zip_second (zip_first (enumerate_source s)))
+
+abbrev pub owed_left : SideBySide → List ℤ
+owed_left s = iter_rest (zip_second (enumerate_source s))
+
+abbrev pub Beside : (ss ws : List ℕ) → (os : List ℤ) → SideBySide → Type 0
+Beside ss ws os s =
+    (shares_left s ≡ drop (enumerate_count s) ss) × (wants_left s ≡ drop (enumerate_count s) ws)
+    × (owed_left s ≡ drop (enumerate_count s) os) × (enumerate_count s ≤ length ss)
+
+-- lists of one length end together
+pub beside_end : (ss ws : List ℕ) (os : List ℤ) (s t : SideBySide) → length ws ≡ length ss → length os ≡ length ss → Beside ss ws os s → zips (zips fronts fronts) fronts (enumerate_source s) None (enumerate_source t) → enumerate_count s ≡ length ss
+beside_end ss ws os s t ew eo b p =
+    let i = enumerate_count s in
+    elim p [
+      | inl q ↦ elim (q.1) [
+        | inl r ↦ omega (arith, r.1.0, ap length b.0, length-drop i ss, b.3)
+        | inr r ↦ omega (arith, r.1.0, ap length b.1, length-drop i ws, b.3)
+      ]
+      | inr r ↦ omega (arith, r.1.0, ap length b.2, length-drop i os, b.3)
+    ]
+
 abbrev pub read : ℕ × ((Bor ℕ × Bor ℕ) × Bor ℤ) → ℕ × ((ℕ × ℕ) × ℤ)
 read p = (p.0, ((p.1.0.0.now, p.1.0.1.now), p.1.1.now))
 
@@ -33,7 +60,7 @@ pub record Stands (l : Lists) (os : List ℤ) (g x v : ℕ) (y : ℤ) : Type 0 w
   pub owed : y ≡ get_or os g (pos 0)
 
 module _ (l : Lists) (os : List ℤ) where
-  pub gone_through : (s : SideBySide) → iter_rest (zip_first (zip_first (enumerate_source s))) ≡ l.shares.now → iter_rest (zip_second (zip_first (enumerate_source s))) ≡ l.wants.now → iter_rest (zip_second (enumerate_source s)) ≡ os → enumerate_count s ≡ 0 → YieldsList (enumerate_steps (zips (zips fronts fronts) fronts)) read s (beside l os)
+  pub gone_through : (s : SideBySide) → shares_left s ≡ l.shares.now → wants_left s ≡ l.wants.now → owed_left s ≡ os → enumerate_count s ≡ 0 → YieldsList (enumerate_steps (zips (zips fronts fronts) fronts)) read s (beside l os)
   gone_through s e f g h =
       YieldsList-from_enumerate {s = s} (YieldsList-from_zip (YieldsList-from_zip (YieldsList-from_slice l.shares.now e) (YieldsList-from_slice l.wants.now f)) (YieldsList-from_slice os g)) h
 

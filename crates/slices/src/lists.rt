@@ -101,7 +101,7 @@ impl<'l> Lists<'l> {
     }
 
     // What a guest earns in a slice.
-    fn earned(&self, guest: usize) -> u32
+    fn earned_by(&self, guest: usize) -> u32
         requires { guest < length self.now.shares.now }
         ensures { result ≡ earned (host_of self.now) (wants_of self.now) guest }
     {
@@ -143,7 +143,7 @@ impl<'l> Lists<'l> {
         ensures { Settles self.now.shares.now self.now.wants.now owed.old owed.new }
     {
         for (guest, amount) in owed.iter_mut().enumerate() {
-            *amount = turn.settled(guest, *amount, self.earned(guest));
+            *amount = turn.settled(guest, *amount, self.earned_by(guest));
         }
     }
 

@@ -1,4 +1,4 @@
--- Which line may stand where. Assumes nothing: these are definitions.
+-- Which line may stand where, and what it leaves in the text. Assumes nothing: these are definitions.
 use Rattle.std.specs.Prelude.{◌≡◌, ℕ, List, [], ◌∷◌, ◌++◌, Some, None, Option, vec_items}
 use Rattle.std.specs.Option.{unwrap_or}
 use Rattle.turns.specs.declared.lines.Line.{Line}
@@ -15,7 +15,7 @@ after OwedOrWants l = elim l [ line.Shares _ ↦ None | line.Owed _ ↦ Some Wan
 after Wants l = elim l [ line.Shares _ ↦ None | line.Owed _ ↦ None | line.Wants _ ↦ Some Slices | line.Slices _ ↦ None ]
 after Slices l = elim l [ line.Shares _ ↦ None | line.Owed _ ↦ None | line.Wants _ ↦ None | line.Slices _ ↦ Some Wants ]
 
--- the first line that can't be read or that nothing may come after, once one more is read
+-- the first line that can't be read or is out of its place, once one more is read
 abbrev pub with_line : Option Next → ℕ → Option ℕ → Option ℕ
 with_line None place unreadable = Some (unwrap_or unreadable place)
 with_line (Some next) place unreadable = unreadable

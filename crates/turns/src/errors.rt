@@ -38,11 +38,28 @@ impl Error {
 impl fmt::Display for Error {
     fn fmt<W: fmt::Write>(&self, f: &mut fmt::Formatter<W>) -> fmt::Result {
         match self.refusal() {
-            Some(refusal) => write!(f, "{refusal}: ")?,
+            Some(Refusal { number, place }) => write!(f, "refused {number} at {place}: ")?,
             None => f.write_str("turns: ")?,
         }
         match self {
-            Error::Lists(fault) => write!(f, "{fault}"),
+            Error::Lists(Fault::NoGuests) => f.write_str(
+                "the shares line needs at least one guest",
+            ),
+            Error::Lists(Fault::TooManyGuests) => f.write_str("there can be at most 64 guests"),
+            Error::Lists(Fault::ShareOutOfRange(_)) => f.write_str(
+                "this guest's share must be 1 to 1000",
+            ),
+            Error::Lists(Fault::WantsLength(_)) => f.write_str(
+                "a wants line needs one number for each guest",
+            ),
+            Error::Lists(Fault::WantAboveOne(_)) => f.write_str("this guest's want must be 0 or 1"),
+            Error::Lists(Fault::OwedLength(_)) => f.write_str(
+                "the owed line needs one number for each guest",
+            ),
+            Error::Lists(Fault::OwedOutOfRange(_)) => f.write_str(
+                "what this guest is owed, or owes, must be less than all shares together times the number of guests",
+            ),
+            Error::Lists(Fault::OwedSumNotZero) => f.write_str("what is owed must add up to 0"),
             Error::Line(_) => f.write_str("this line, counted from 0, can't be read or is missing"),
             Error::TooManyFiles => {
                 f.write_str("there is more than one file to read; turns --help says more")

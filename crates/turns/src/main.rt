@@ -53,7 +53,7 @@ fn turns(rt: &HostRuntime) -> Result<(), Error> {
     run.print(&mut out)
 }
 
-// There may be one.
+// The program takes one argument or none.
 fn only_argument(rt: &HostRuntime) -> Result<Option<String>, Error> {
     let mut args = env::args(rt).map_err(Error::Input)?.skip(1);
     match (args.next(), args.next()) {

@@ -45,10 +45,10 @@ impl Run {
     // From amounts that no run from nothing leads to, what is owed can pass its limit on the way. Then the text is refused
     // before anything of it is printed.
     fn rehearse(&self) -> Result<(), Error> {
-        if self.owed.iter().all(|amount| *amount == 0) {
+        let mut owed = self.owed.clone()?;
+        if owed.iter().all(|amount| *amount == 0) {
             return Ok(());
         }
-        let mut owed = self.owed.clone()?;
         for part in self.stretches.iter() {
             part.rehearse(&self.shares, &mut owed)?;
         }

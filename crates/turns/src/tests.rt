@@ -1,6 +1,7 @@
 // Texts that are refused, by which number and at which place.
+use super::errors::Error;
 use super::texts::Text;
-use guests::Refusal;
+use guests::{Fault, Refusal};
 use std::alloc::Global;
 use std::process::Abort;
 use std::test::Fail;
@@ -102,5 +103,16 @@ fn what_passes_its_limit_on_the_way_is_refused(rt: HostRuntime) -> Result<(), Fa
         })
     );
     assert!(rt; out.is_empty());
+    Ok(())
+}
+
+#[test]
+fn what_is_said_of_a_refusal(rt: HostRuntime) -> Result<(), Fail> {
+    let error = Error::Lists(Fault::OwedSumNotZero);
+    let said = format!(in rt.alloc(); "{error}")?;
+    assert_eq!(rt;
+        said.as_str(),
+        "refused 3 at 64: what is owed must add up to 0"
+    );
     Ok(())
 }

@@ -1,6 +1,6 @@
 // The text as a value, what it is refused by, and what is left to run of one that stands.
 ghost use Rattle.guests.specs.Faults.{Checks};
-ghost use Rattle.std.specs.Prelude.{◌≡◌, IfOk, length, Some, vec_items};
+ghost use Rattle.std.specs.Prelude.{◌≡◌, IfOk, Some, vec_items};
 ghost use Rattle.std.specs.Option.{IfNone, OnSome, option_map, unwrap_or};
 ghost use Rattle.turns.specs.Order.{Keeps, SameLists, after, at_end, with_line};
 ghost use Rattle.turns.specs.Checking.{Checked, lists_fault, owed_given, stretches_fault};
@@ -8,7 +8,7 @@ ghost use Rattle.turns.specs.Checking.{Checked, lists_fault, owed_given, stretch
 use super::errors::Error;
 use super::lines::{Line, Pieces};
 use super::runs::{Run, Stretch};
-use guests::{Fault, Shares};
+use guests::{Fault, Totals};
 use std::alloc::{AllocError, Global};
 
 // The lines that could be read, and the place of the first that couldn't.
@@ -187,16 +187,16 @@ fn owed_or_nothing(
 fn check_lists(run: &Run) -> Result<(), Fault>
     ensures { Checks (lists_fault run.now.shares.items run.now.stretches.items run.now.owed.items) (λ _. Unit {0}) result }
 {
-    let shares = Shares::of(&run.shares)?;
-    check_stretches(shares, &run.stretches)?;
-    shares.check_owed(&run.owed)
+    let totals = Totals::of(&run.shares)?;
+    check_stretches(totals, &run.stretches)?;
+    totals.check_owed(&run.owed)
 }
 
-fn check_stretches(shares: Shares, stretches: &[Stretch]) -> Result<(), Fault>
-    ensures { Checks (stretches_fault (length shares.entry.each.now) stretches.now) (λ _. Unit {0}) result }
+fn check_stretches(totals: Totals, stretches: &[Stretch]) -> Result<(), Fault>
+    ensures { Checks (stretches_fault totals.guests stretches.now) (λ _. Unit {0}) result }
 {
     for stretch in stretches {
-        shares.runnable(&stretch.wants)?;
+        totals.runnable(&stretch.wants)?;
     }
     Ok(())
 }

@@ -11,4 +11,4 @@ loop-guest-preserved c =
     let fits : SFits w64 c.settled.result = search rules in
     Settled_more l c.args.owed.now g c.loop-guest.owed _ c.loop-guest.invariant c.loop-guest-test.true
     (to_z-of_z w64 c.settled.result fits
-    ∙ settled_is l c.args.owed.now c.args.turn c.requires.turn c.requires.reach g h _ _ _ (c.loop-guest.invariant.above g (omega arith)) c.earned.ensures c.settled.ensures)
+    ∙ settled_is l c.args.owed.now c.args.turn c.requires.turn c.requires.reach g h _ _ _ (c.loop-guest.invariant.above g (omega arith)) c.earned_by.ensures c.settled.ensures)

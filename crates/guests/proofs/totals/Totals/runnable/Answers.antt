@@ -3,7 +3,7 @@ use Rattle.std.specs.List.{position}
 use Rattle.std.proofs.lemmas.Bool.Decides.{nat_tests}
 use Rattle.guests.specs.Faults.{want_ok}
 use Rattle.guests.proofs.Failing.{each_from_position}
-use Rattle.guests.proofs.shares.Shares.runnable.Goals as goal
+use Rattle.guests.proofs.totals.Totals.runnable.Goals as goal
 
 pub of-requires-clause-each : goal.of-requires-clause-each
 of-requires-clause-each c k d h =

@@ -1,6 +1,6 @@
 use Rattle.std.proofs.Common.{◌≡◌, ◌*◌, ◌≤◌, nat_abs}
 use Rattle.guests.specs.Guests.{owed_in, int_sum_below}
-use Rattle.guests.proofs.shares.sum.Given as goal
+use Rattle.guests.proofs.totals.sum.Given as goal
 
 abbrev pub invariant-loop-amount : goal.invariant-loop-amount
 invariant-loop-amount l =

@@ -1,23 +1,21 @@
-// Shares that are taken, and the checks of what is lent beside them.
+// How many guests a host has and what their shares come to, once the shares are taken; and the checks that need no more.
 ghost use Rattle.std.specs.Prelude.{◌≡◌, ◌≤◌, length, not, position, All, sum, unsigned_abs};
-ghost use Rattle.std.specs.Option.{option_or};
 ghost use Rattle.guests.specs.Faults.{Checks, amount_ok, share_ok, shares_fault, want_ok, wants_fault, owed_fault};
-ghost use Rattle.guests.specs.Guests.{Valid, host_in, int_sum_below, owed_in, total, wants_bits};
+ghost use Rattle.guests.specs.Guests.{host_in, int_sum_below, owed_in, total, wants_bits};
 
 use super::faults::Fault;
 use super::plans::Plan;
 use super::wanting::Runnable;
 
-// Shares that are taken, as they are lent, and what they come to.
 #[derive(Clone, Copy)]
-pub struct Shares<'s> {
-    pub each: &'s [u32],
-    pub together: u64,
-    ghost valid: { Valid (host_in each.now) },
-    ghost sum: { together ≡ total (host_in each.now) },
+pub struct Totals {
+    guests: usize,
+    share: u64,
+    ghost few: { guests ≤ 64 },
+    ghost share_most: { share ≤ 64000 },
 }
 
-// The first guest whose share can't be had.
+// The first guest whose share is out of range.
 fn share_out_of_range(shares: &[u32]) -> Option<usize>
     ensures { result ≡ position (λ s. not (share_ok s)) shares.now }
 {
@@ -49,9 +47,10 @@ fn total(shares: &[u32]) -> u64
     shares.iter().map(|share| u64::from(*share)).sum()
 }
 
-impl<'s> Shares<'s> {
-    pub fn of(shares: &'s [u32]) -> Result<Shares<'s>, Fault>
-        ensures { Checks (shares_fault shares.now) (λ s. s.each.now ≡ shares.now) result }
+impl Totals {
+    // Of shares that are taken.
+    pub fn of(shares: &[u32]) -> Result<Totals, Fault>
+        ensures { Checks (shares_fault shares.now) (λ t. (t.guests ≡ length shares.now) × (t.share ≡ total (host_in shares.now))) result }
     {
         if shares.is_empty() {
             return Err(Fault::NoGuests);
@@ -62,26 +61,18 @@ impl<'s> Shares<'s> {
         if let Some(guest) = share_out_of_range(shares) {
             return Err(Fault::ShareOutOfRange(guest));
         }
-        Ok(Shares {
-            each: shares,
-            together: total(shares),
+        Ok(Totals {
+            guests: shares.len(),
+            share: total(shares),
         })
-    }
-
-    pub(super) fn check(self, wants: &[u8], owed: &[i64]) -> Result<Runnable, Fault>
-        ensures { Checks (option_or (wants_fault (length self.entry.each.now) wants.now) (owed_fault (length self.entry.each.now) (total (host_in self.entry.each.now)) owed.now)) (λ w. w.bits ≡ wants_bits wants.now) result }
-    {
-        let runnable = self.runnable(wants)?;
-        self.check_owed(owed)?;
-        Ok(runnable)
     }
 
     // Who wants to run, where there is a want for each guest.
     pub fn runnable(self, wants: &[u8]) -> Result<Runnable, Fault>
-        ensures { Checks (wants_fault (length self.entry.each.now) wants.now) (λ w. w.bits ≡ wants_bits wants.now) result }
+        ensures { Checks (wants_fault self.guests wants.now) (λ w. w.bits ≡ wants_bits wants.now) result }
     {
-        if wants.len() != self.each.len() {
-            return Err(Fault::WantsLength(wants.len().min(self.each.len())));
+        if wants.len() != self.guests {
+            return Err(Fault::WantsLength(wants.len().min(self.guests)));
         }
         if let Some(guest) = want_above_one(wants) {
             return Err(Fault::WantAboveOne(guest));
@@ -91,12 +82,12 @@ impl<'s> Shares<'s> {
 
     // That what is owed can have come of slices: within the limit for each guest, and nothing all together.
     pub fn check_owed(self, owed: &[i64]) -> Result<(), Fault>
-        ensures { Checks (owed_fault (length self.entry.each.now) (total (host_in self.entry.each.now)) owed.now) (λ _. Unit {0}) result }
+        ensures { Checks (owed_fault self.guests self.share owed.now) (λ _. Unit {0}) result }
     {
-        if owed.len() != self.each.len() {
-            return Err(Fault::OwedLength(owed.len().min(self.each.len())));
+        if owed.len() != self.guests {
+            return Err(Fault::OwedLength(owed.len().min(self.guests)));
         }
-        let limit = self.together * self.each.len() as u64;
+        let limit = self.share * self.guests as u64;
         if let Some(guest) = owed_out_of_range(owed, limit) {
             return Err(Fault::OwedOutOfRange(guest));
         }
@@ -107,7 +98,7 @@ impl<'s> Shares<'s> {
     }
 }
 
-// Of amounts within the largest limit that there is.
+// Of amounts within the largest limit that there is. The library's sum leaves open that signed amounts fit.
 fn sum(owed: &[i64]) -> i64
     requires few { length owed.now ≤ 64 }
     requires small { All (λ x. unsigned_abs x ≤ 4096000) owed.now }
