@@ -49,8 +49,12 @@ impl Run {
         if owed.iter().all(|amount| *amount == 0) {
             return Ok(());
         }
+        let mut plan = Plan {
+            shares: &self.shares,
+            owed: &mut owed,
+        };
         for part in self.stretches.iter() {
-            part.rehearse(&self.shares, &mut owed)?;
+            part.rehearse(&mut plan)?;
         }
         Ok(())
     }
@@ -58,9 +62,9 @@ impl Run {
 
 impl Stretch {
     // Slice by slice, since what is owed is checked once in a call.
-    fn rehearse(&self, shares: &[u32], owed: &mut [i64]) -> Result<(), Fault> {
+    fn rehearse(&self, plan: &mut Plan) -> Result<(), Fault> {
         for _ in 0..self.slices {
-            stretch(shares, &self.wants, owed, &mut [None])?;
+            stretch(plan.shares, &self.wants, plan.owed, &mut [None])?;
         }
         Ok(())
     }
