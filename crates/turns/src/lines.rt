@@ -1,5 +1,5 @@
 // The lines of a text, the words of a line, and what a line says.
-ghost use Rattle.std.specs.Prelude.{◌≡◌, ◌+◌, ◌≤◌, length, IfSome};
+ghost use Rattle.std.specs.Prelude.{◌≡◌, ◌==◌, ◌+◌, ◌≤◌, length, position, IfSome};
 ghost use Rattle.std.specs.Iterator.{at_most};
 ghost use Rattle.std.specs.Option.{option_map, unwrap_or};
 ghost use Rattle.turns.specs.Cuts.{Cut, lines_of, pieces, to_come};
@@ -47,13 +47,18 @@ impl<'t> Iterator for Pieces<'t> {
 
     fn next(&mut self) -> Option<&'t [u8]> {
         let rest = self.rest.take()?;
-        let cut = self.cut;
-        let Some(end) = rest.iter().position(|b| *b == cut) else {
+        let Some(end) = place_of(self.cut, rest) else {
             return Some(rest);
         };
         self.rest = Some(&rest[end + 1..]);
         Some(&rest[..end])
     }
+}
+
+fn place_of(byte: u8, bytes: &[u8]) -> Option<usize>
+    ensures { result ≡ position (λ b. b == byte) bytes.now }
+{
+    bytes.iter().position(|b| *b == byte)
 }
 
 // The most slices that a stretch may have.

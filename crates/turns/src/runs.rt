@@ -53,8 +53,8 @@ impl Run {
             shares: &self.shares,
             owed: &mut owed,
         };
-        for part in self.stretches.iter() {
-            part.rehearse(&mut plan)?;
+        for stretch in self.stretches.iter() {
+            stretch.rehearse(&mut plan)?;
         }
         Ok(())
     }
@@ -71,16 +71,16 @@ impl Stretch {
 }
 
 // Runs a stretch, and prints who works in each of its slices.
-fn print_works<W: Write>(plan: &mut Plan, part: &Stretch, out: &mut W) -> Result<(), Error> {
+fn print_works<W: Write>(plan: &mut Plan, stretch: &Stretch, out: &mut W) -> Result<(), Error> {
     let mut runners = [None; AT_ONCE as usize];
     write!(out, "works")?;
-    for _ in 0..part.slices / AT_ONCE {
-        print_some(plan, &part.wants, &mut runners, out)?;
+    for _ in 0..stretch.slices / AT_ONCE {
+        print_some(plan, &stretch.wants, &mut runners, out)?;
     }
     // A call for no slices would still check what is owed, and could refuse it.
-    let rest = &mut runners[..(part.slices % AT_ONCE) as usize];
+    let rest = &mut runners[..(stretch.slices % AT_ONCE) as usize];
     if !rest.is_empty() {
-        print_some(plan, &part.wants, rest, out)?;
+        print_some(plan, &stretch.wants, rest, out)?;
     }
     writeln!(out, "")?;
     Ok(())

@@ -68,12 +68,10 @@ impl Reader {
 
     fn read(&mut self, place: usize, line: &[u8]) -> Result<(), AllocError> {
         match Line::read(self.heap, line)? {
-            Some(line) => self.take(place, line),
-            None => {
-                self.text.pass_over(place);
-                Ok(())
-            }
+            Some(line) => self.take(place, line)?,
+            None => self.text.pass_over(place),
         }
+        Ok(())
     }
 
     // Takes a line that stands in its place, and passes over any other.
