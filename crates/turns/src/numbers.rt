@@ -17,6 +17,7 @@ pub trait Number {
 impl Number for u8 {
     ghost reads = { λ word r. r ≡ up_to (2 ^ 8 - 1) word };
 
+    #[tactic(auto, using(crate::proofs::Digits::up_to_parsed))]
     fn read(word: &[u8]) -> Option<u8> {
         up_to(word, u8::MAX)
     }
@@ -25,6 +26,7 @@ impl Number for u8 {
 impl Number for u32 {
     ghost reads = { λ word r. r ≡ up_to (2 ^ 32 - 1) word };
 
+    #[tactic(auto, using(crate::proofs::Digits::up_to_parsed))]
     fn read(word: &[u8]) -> Option<u32> {
         up_to(word, u32::MAX)
     }
@@ -33,6 +35,7 @@ impl Number for u32 {
 impl Number for u64 {
     ghost reads = { λ word r. r ≡ up_to (2 ^ 64 - 1) word };
 
+    #[tactic(auto, using(crate::proofs::Digits::up_to_parsed))]
     fn read(word: &[u8]) -> Option<u64> {
         up_to(word, u64::MAX)
     }
