@@ -19,14 +19,14 @@ owed_is_guest : (os : List ℤ) (g : ℕ) → is_owed os g ≡ true → g < leng
 owed_is_guest os g owed = grind (arith, ints, get_or_past os g (pos 0))
 
 module _ (os : List ℤ) (by : List ℕ) (ranks : ranks_all os by ≡ true) where
-  rank_parts : (length by ≡ length os) × (each_there (length os) by ≡ true) × (in_order (owed_in os) by ≡ true)
-  rank_parts = (grind (arith, nat_tests, ranks), grind (arith, ranks), grind (arith, ranks))
+  pub rank_parts : (length os ≤ 64) × (length by ≡ length os) × (each_there (length os) by ≡ true) × (in_order (owed_in os) by ≡ true)
+  rank_parts = (grind (arith, nat_tests, ranks), grind (arith, nat_tests, ranks), grind (arith, ranks), grind (arith, ranks))
 
   pub IsPartitionedBy-ranks : IsPartitionedBy (is_owed os) by
   IsPartitionedBy-ranks i j d h k owed =
       elim (cases_eq i j) [
         | inl same ↦ rw same owed
-        | inr other ↦ owed_before_owed (owed_in os) (get_or by i d) (get_or by j d) (before_from_in_order (owed_in os) by rank_parts.2 i j d (omega arith) k) owed
+        | inr other ↦ owed_before_owed (owed_in os) (get_or by i d) (get_or by j d) (before_from_in_order (owed_in os) by rank_parts.3 i j d (omega arith) k) owed
       ]
 
   -- as many places as come before the first whose guest is owed nothing
@@ -69,13 +69,13 @@ module _ (os : List ℤ) (by part : List ℕ) where
 
     owed_has : (g : ℕ) → g < length os → is_owed os g ≡ true → Contains part g
     owed_has g h owed =
-        let p = Contains-from_any eqb-true g by ((Decides-each_there (length os) by).0 (rank_parts os by ranks).1 g h) in
+        let p = Contains-from_any eqb-true g by ((Decides-each_there (length os) by).0 (rank_parts os by ranks).2 g h) in
         let there : get_or by p.0 0 ≡ g = get_or_default by p.0 0 g p.1 ∙ p.2 in
         let inside : p.0 < length part = ltb-true p.0 (length part) (sym (front.1 p.0 p.1) ∙ rw there owed) in
         (p.0, inside, place p.0 g inside ∙ there)
 
     ordered_in_part : AllPairs (λ g h. before (owed_in os) g h ≡ true) part
-    ordered_in_part i j d h k = rw (place i d (omega arith), place j d k) (before_from_in_order (owed_in os) by (rank_parts os by ranks).2 i j 0 h (omega (arith, short)))
+    ordered_in_part i j d h k = rw (place i d (omega arith), place j d k) (before_from_in_order (owed_in os) by (rank_parts os by ranks).3 i j 0 h (omega (arith, short)))
 
     laws_of_front : PartLaws os by part
     laws_of_front = record {

@@ -10,7 +10,7 @@ use Rattle.std.proofs.lemmas.Bool.Decides.{nat_tests}
 use Rattle.std.proofs.lemmas.Map.Keys.{IsDistinct-from_apart}
 
 module _ (o : Owed) where
-  before_trans : (a b c : ℕ) → before o a b ≡ true → before o b c ≡ true → before o a c ≡ true
+  pub before_trans : (a b c : ℕ) → before o a b ≡ true → before o b c ≡ true → before o a c ≡ true
   before_trans a b c h k = grind (arith, ints, nat_tests)
 
   pub before_apart : (a b : ℕ) → before o a b ≡ true → eqb a b ≡ false

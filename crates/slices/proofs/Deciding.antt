@@ -17,7 +17,7 @@ use Rattle.slices.proofs.Beside.{Stands}
 abbrev pub candidate : Owed → ℕ → Candidate
 candidate q g = record { claim = q g; guest = record { 0 = g } }
 
-candidate_is : (q : Owed) (i : ℕ) (c : Candidate) → c.guest.0 ≡ i → c.claim ≡ q i → c ≡ candidate q i
+pub candidate_is : (q : Owed) (i : ℕ) (c : Candidate) → c.guest.0 ≡ i → c.claim ≡ q i → c ≡ candidate q i
 candidate_is q i c e f =
     ap (λ (n : ℕ). record { claim = c.claim; guest = record { 0 = n } }) e ∙ ap (λ (a : ℤ). record { claim = a; guest = record { 0 = i } }) f
 

@@ -1,5 +1,5 @@
 // The lists of a slice once they are checked, and the slices that are given of them.
-ghost use Rattle.std.specs.Prelude.{◌≡◌, ℕ, ◌+◌, ◌<◌, ◌≤◌, length, map, sum, pos, ◌+ℤ◌, ◌-ℤ◌, if◌then◌else◌, nat_eq, slice_index, unsigned_abs, IfSome, IsSome, None};
+ghost use Rattle.std.specs.Prelude.{◌≡◌, ℕ, ◌+◌, ◌<◌, ◌≤◌, length, map, sum, pos, ◌+ℤ◌, ◌-ℤ◌, if◌then◌else◌, nat_eq, slice_index, slice_set, unsigned_abs, IfSome, IsSome, None};
 ghost use Rattle.std.specs.List.{zip};
 ghost use Rattle.bounds.specs.Laws.{SliceLaws};
 ghost use Rattle.bounds.specs.Rule.{earned, runner};
@@ -66,6 +66,14 @@ fn earned(share: u32, want: u8) -> u32
     ensures { result ≡ (if nat_eq want 1 then share else 0) }
 {
     if want == 1 { share } else { 0 }
+}
+
+// Notes who runs in a slice, in its place.
+fn put(runners: &mut [Option<u64>], slice: usize, runner: Option<u64>)
+    requires { slice < length runners.old }
+    ensures { runners.new ≡ slice_set runners.old slice runner }
+{
+    runners[slice] = runner;
 }
 
 // Lent shares and wants that are not refused, and who wants as bits.
@@ -147,7 +155,9 @@ impl<'l> Lists<'l> {
         }
     }
 
-    // A slice: who runs, if anybody wants to.
+    // A slice: who runs, if anybody wants to. It is inlined, since a call for each slice of a stretch would cost more than a
+    // slice that nobody wants.
+    #[inline(always)]
     pub(super) fn give(&self, owed: &mut [i64]) -> Option<u64>
         requires { InReach self.now owed.old }
         ensures runs { result ≡ runner (host_of self.now) (wants_of self.now) (owed_in owed.old) }
@@ -174,8 +184,9 @@ impl<'l> Lists<'l> {
         ensures keeps { StretchLaws self.now.shares.now self.now.wants.now owed.old owed.new }
         ensures carries { CarriesOn self.now.shares.now owed.old owed.new }
     {
-        for runner in runners.iter_mut() {
-            *runner = self.give(owed);
+        for slice in 0..runners.len() {
+            let runner = self.give(owed);
+            put(runners, slice, runner);
         }
     }
 }

@@ -2,7 +2,6 @@
 use super::errors::Error;
 use guests::{Fault, Plan};
 use slices::stretch;
-use std::fmt;
 use std::io::Write;
 
 // So many slices in which the same guests want to run.
@@ -72,8 +71,17 @@ impl Stretch {
 
 // Runs a stretch, and prints who works in each of its slices.
 fn print_works<W: Write>(plan: &mut Plan, stretch: &Stretch, out: &mut W) -> Result<(), Error> {
-    let mut runners = [None; AT_ONCE as usize];
     write!(out, "works")?;
+    // A stretch of no slices needs no room for runners.
+    if stretch.slices > 0 {
+        print_slices(plan, stretch, out)?;
+    }
+    writeln!(out, "")?;
+    Ok(())
+}
+
+fn print_slices<W: Write>(plan: &mut Plan, stretch: &Stretch, out: &mut W) -> Result<(), Error> {
+    let mut runners = [None; AT_ONCE as usize];
     for _ in 0..stretch.slices / AT_ONCE {
         print_some(plan, &stretch.wants, &mut runners, out)?;
     }
@@ -82,7 +90,6 @@ fn print_works<W: Write>(plan: &mut Plan, stretch: &Stretch, out: &mut W) -> Res
     if !rest.is_empty() {
         print_some(plan, &stretch.wants, rest, out)?;
     }
-    writeln!(out, "")?;
     Ok(())
 }
 
@@ -95,7 +102,10 @@ fn print_some<W: Write>(
 ) -> Result<(), Error> {
     stretch(plan.shares, wants, plan.owed, runners)?;
     for runner in runners.iter() {
-        write!(out, " {}", Runner(*runner))?;
+        match runner {
+            Some(guest) => write!(out, " {guest}")?,
+            None => write!(out, " nobody")?,
+        }
     }
     Ok(())
 }
@@ -107,17 +117,4 @@ fn print_owed<W: Write>(plan: &Plan, out: &mut W) -> Result<(), Error> {
     }
     writeln!(out, "")?;
     Ok(())
-}
-
-// Who runs in a slice, if anybody wants to.
-#[derive(Clone, Copy)]
-struct Runner(Option<u64>);
-
-impl fmt::Display for Runner {
-    fn fmt<W: fmt::Write>(&self, f: &mut fmt::Formatter<W>) -> fmt::Result {
-        match self.0 {
-            Some(guest) => write!(f, "{guest}"),
-            None => f.write_str("nobody"),
-        }
-    }
 }

@@ -3,10 +3,11 @@ use Rattle.slices.proofs.Reach.{in_reach_at}
 use Rattle.slices.proofs.Stretching.{Given_more}
 use Rattle.slices.proofs.lists.Lists.run.Goals as goal
 
-pub give-requires : goal.give-requires
-give-requires c = in_reach_at c.args.self.now c.args.owed.now c.requires.accepted.no_fault c.loop-runner.runner-index c.loop-runner.owed c.loop-runner.invariant.long c.loop-runner.invariant.owed
+pub give-runner-requires : goal.give-runner-requires
+give-runner-requires c = in_reach_at c.args.self.now c.args.owed.now c.requires.accepted.no_fault c.loop-slice.slice c.loop-slice.owed c.loop-slice.invariant.long c.loop-slice.invariant.owed
 
-pub loop-runner-preserved : goal.loop-runner-preserved
-loop-runner-preserved c =
-    Given_more c.args.self.now.shares.now c.args.self.now.wants.now c.args.owed.now c.loop-runner.runner-index c.loop-runner.owed c.give.new.owed c.loop-runner.runners c.give.result
-    c.loop-runner.invariant (omega arith) c.give.ensures.runs c.give.ensures.settles
+pub loop-slice-preserved : goal.loop-slice-preserved
+loop-slice-preserved c =
+    rw c.put.ensures
+    (Given_more c.args.self.now.shares.now c.args.self.now.wants.now c.args.owed.now c.loop-slice.slice c.loop-slice.owed c.give-runner.new.owed c.loop-slice.runners c.give-runner.result
+    c.loop-slice.invariant (omega arith) c.give-runner.ensures.runs c.give-runner.ensures.settles)

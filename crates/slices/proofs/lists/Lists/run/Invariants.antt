@@ -1,5 +1,5 @@
 use Rattle.slices.proofs.Stretching.{Given}
 use Rattle.slices.proofs.lists.Lists.run.Given as goal
 
-abbrev pub invariant-loop-runner : goal.invariant-loop-runner
-invariant-loop-runner l = Given l.self.shares.now l.self.wants.now l.initial.owed l.runner-index l.owed l.runners
+abbrev pub invariant-loop-slice : goal.invariant-loop-slice
+invariant-loop-slice l = Given l.self.shares.now l.self.wants.now l.initial.owed l.slice l.owed l.runners
